@@ -1,0 +1,8 @@
+-- How large a whole number may be: the one definition here that contracts cite.
+use Prim.Native.Nat.{ℕ, _≤_}
+use lib.IntN.{ℤ, natAbs}
+
+-- |z| ≤ n
+infix 50 _within_
+pub record _within_ (z : ℤ) (n : ℕ) : Type 0 where
+  pub abs : natAbs z ≤ n
