@@ -1,0 +1,6 @@
+pub mod Round
+pub mod Fraction
+pub mod Table
+pub mod Segment
+pub mod Two
+pub mod Starred

@@ -1,0 +1,83 @@
+-- Interpolation over a table of points (01, "The reading", step 2), the same for CTO, CTG and CLK: "Between neighbouring
+-- points: v1 + round((v2 − v1) × (t − t1) ÷ (t2 − t1)). Outside the points the end value is kept."
+use mathlib.Core.Bool.{cond}
+use mathlib.Core.List.{List, [], _∷_}
+use Prim.Native.Nat.{ℕ, _*_, _≤_, _^_}
+use lib.IntN.{ℤ, pos, natAbs, _+ℤ_, _-ℤ_, _*ℤ_}
+use lib.ListN.{getD}
+use lib.Signed.{leZ, _<ℤ_}
+use Rattle.integers.specs.Within.{_within_}
+use Rattle.arithmetic.specs.Round.{roundDiv}
+use Rattle.arithmetic.specs.Fraction.{Fraction, whole, _≤?_, _+F_, _-F_, _*F_, _/F_}
+
+-- a point is a row of figures: column 0 its place, the others its values
+abbrev pub Point : Type 0
+Point = List ℤ
+
+abbrev pub column : ℕ → Point → ℤ
+column j p = getD p j (pos 0)
+
+abbrev pub place : Point → ℤ
+place p = column 0 p
+
+-- ---- to a whole number
+
+-- v1 + round((v2 − v1) × (t − t1) ÷ (t2 − t1))
+abbrev pub line : ℤ → ℤ → ℤ → ℤ → ℤ → ℤ
+line t₁ v₁ t₂ v₂ t = v₁ +ℤ roundDiv ((v₂ -ℤ v₁) *ℤ (t -ℤ t₁)) (t₂ -ℤ t₁)
+
+-- column j between the neighbours p and q
+unfoldable pub between : ℕ → Point → Point → ℤ → ℤ
+between j p q t = line (place p) (column j p) (place q) (column j q) t
+
+-- column j of the table at t (a table without points, which no sheet has, is 0)
+unfoldable pub interpolated : ℕ → List Point → ℤ → ℤ
+interpolated j [] t = pos 0
+interpolated j (p ∷ []) t = column j p
+interpolated j (p ∷ (q ∷ rest)) t =
+    cond (leZ t (place p)) (column j p)
+    (cond (leZ t (place q)) (between j p q t)
+    (interpolated j (q ∷ rest) t))
+
+-- ---- exactly, at a fraction: the same with no rounding
+
+unfoldable pub betweenF : ℕ → Point → Point → Fraction → Fraction
+betweenF j p q t = whole (column j p) +F whole (column j q -ℤ column j p) *F (t -F whole (place p)) /F (place q -ℤ place p)
+
+unfoldable pub interpolatedF : ℕ → List Point → Fraction → Fraction
+interpolatedF j [] t = whole (pos 0)
+interpolatedF j (p ∷ []) t = whole (column j p)
+interpolatedF j (p ∷ (q ∷ rest)) t =
+    cond (t ≤? place p) (whole (column j p))
+    (cond (t ≤? place q) (betweenF j p q t)
+    (interpolatedF j (q ∷ rest) t))
+
+-- ---- what a table may keep
+
+-- P holds of each point
+abbrev pub Each : (Point → Type 0) → List Point → Type 0
+Each P [] = Unit
+Each P (p ∷ rest) = P p × Each P rest
+
+-- R holds between neighbours
+abbrev pub Neighbours : (Point → Point → Type 0) → List Point → Type 0
+Neighbours R [] = Unit
+Neighbours R (p ∷ []) = Unit
+Neighbours R (p ∷ (q ∷ rest)) = R p q × Neighbours R (q ∷ rest)
+
+-- the places rise strictly
+abbrev pub Rising : List Point → Type 0
+Rising = Neighbours (λ p q. place p <ℤ place q)
+
+-- 4 × the change of column j is at most the change of the place, signs ignored
+abbrev pub Gentle : ℕ → List Point → Type 0
+Gentle j = Neighbours (λ p q. 4 * natAbs (column j q -ℤ column j p) ≤ natAbs (place q -ℤ place p))
+
+-- column j is within ±n
+abbrev pub ColumnWithin : ℕ → ℕ → List Point → Type 0
+ColumnWithin j n = Each (λ p. column j p within n)
+
+-- What the code asks of column j, so that no product leaves an i64. The figures of every sheet keep it.
+pub record Computable (j : ℕ) (table : List Point) : Type 0 where
+  pub places : ColumnWithin 0 (2 ^ 31) table
+  pub values : ColumnWithin j (2 ^ 27) table

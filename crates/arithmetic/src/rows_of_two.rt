@@ -1,0 +1,45 @@
+// A table of up to seven points, rows of two figures.
+ghost use mathlib.Core.Path.{_≡_};
+ghost use lib.ListN.{take};
+ghost use Rattle.arithmetic.specs.Table.{interpolated};
+ghost use Rattle.arithmetic.specs.Segment.{below, Found};
+use crate::interpolation::line_at;
+
+// How many of the first `count` rows, from the first on, lie below t.
+pub fn count_below(rows: [[i64; 2]; 7], count: usize, t: i64) -> usize
+    ensures { λ r. ⌜ r ≡ below t (take count rows) ⌝ }
+{
+    let mut k: usize = 0;
+    while k < 7 {
+        if count <= k {
+            return k;
+        }
+        if t <= rows[k][0] {
+            return k;
+        }
+        k += 1;
+    }
+    k
+}
+
+// Column 1 at t of the first `count` rows, of which k lie below t.
+pub fn value_at(rows: [[i64; 2]; 7], count: usize, k: usize, t: i64) -> i64
+    requires { ⌜ Found 1 t (take count rows) k ⌝ }
+    ensures { λ r. ⌜ r ≡ interpolated 1 (take count rows) t ⌝ }
+{
+    if count == 0 {
+        return 0;
+    }
+    if k == 0 {
+        return rows[0][1];
+    }
+    let p = rows[k - 1];
+    if count <= k {
+        return p[1];
+    }
+    if k < 7 {
+        let q = rows[k];
+        return line_at(p[0], p[1], q[0], q[1], t);
+    }
+    p[1]
+}
