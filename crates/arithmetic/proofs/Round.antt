@@ -5,16 +5,16 @@ use mathlib.Core.List.{[], _∷_}
 use mathlib.Core.Logic.{⊎-elim, _↔_}
 use Prim.Native.Nat.{ℕ, zero, suc, _*_, _/_, _<_, _≤_}
 use native.Mathlib.Omega.{arith}
-use native.Mathlib.Nat.{div-add-mod, mod-lt, mul-le-mul-right, le-antisymm, le-refl}
-use lib.IntN.{ℤ, pos, negsuc, negℤ, natAbs, _+ℤ_, _-ℤ_, _*ℤ_, +ℤ-idr}
+use native.Mathlib.Nat.{div-add-mod, mod-lt, mul-le-mul-right, lt-of-mul-lt-mul-right, le-antisymm, le-refl}
+use lib.IntN.{ℤ, pos, negsuc, negℤ, natAbs, _+ℤ_, _-ℤ_, _*ℤ_, +ℤ-idr, *ℤ-comm}
 use mir.Syntax.{Width}
 use mir.Val.{SFits}
-use lib.Signed.{shrZ, quotZ, remZ, _≤ℤ_, _<ℤ_, ≤ℤ-refl}
+use lib.Signed.{shrZ, quotZ, remZ, _≤ℤ_, _<ℤ_, ≤ℤ-refl, clashℤ}
 use Rattle.integers.specs.Within.{_within_}
 use Rattle.integers.proofs.Parts.{posPart, negPart, lt-parts, abs-parts, ints}
 use Rattle.integers.proofs.Difference.{⟨_⟩, nat, minus, _⊕_, _⊝_, _⊗_, le!, lt!, le?, lt?, abs!, abs-above, abs-below}
-use Rattle.integers.proofs.Order.{≤-or->, ≤-unless, ≤-antisym}
-use Rattle.integers.proofs.Magnitude.{within-of}
+use Rattle.integers.proofs.Order.{≤-or->, ≤-unless, <-unless, ≤-antisym, mul-le, mul-lt, mul-cancel}
+use Rattle.integers.proofs.Magnitude.{within-of, abs-mul, abs-sum2}
 use Rattle.integers.proofs.Ring.{ring, polynomials}
 use Rattle.integers.proofs.Machine.{fits!, fits-pos-part, fits-neg-part}
 use Rattle.integers.proofs.Division.{quot-rem, rem-below, rem-above}
@@ -106,6 +106,20 @@ round-within {n} a (pos m) h k = within-of
     (round-at-least a (negℤ (pos n)) (pos m) h (le! (minus (nat n) ⊗ nat m) ⟨ a ⟩ (omega (arith, abs-parts a))))
     (round-at-most a (pos n) (pos m) h (le! ⟨ a ⟩ (nat n ⊗ nat m) (omega (arith, abs-parts a))))
 
+-- less than half of d: 0
+pub round-none : (a d : ℤ) → pos 0 <ℤ d → 2 * natAbs a < natAbs d → roundDiv a d ≡ pos 0
+round-none a d h l =
+    let r = roundDiv a d in
+    let s = simp abs-mul at (abs-sum2 (r *ℤ d -ℤ a) a (back (r *ℤ d) a)) in
+    by r (lt-of-mul-lt-mul-right (natAbs d) (omega (arith, s, round-near a d h)))
+  where
+    back : (x a : ℤ) → x ≡ (x -ℤ a) +ℤ a
+    back x a = ring (x ∷ a ∷ []) (search polynomials depth 20 fits 9000) refl
+
+    by : (z : ℤ) → natAbs z < 1 → z ≡ pos 0
+    by (pos n) k = ap pos (omega arith)
+    by (negsuc n) k = absurd (omega arith)
+
 -- ---- halves go upwards
 
 -- −d < 2(r·d − a) ≤ d: what decides r
@@ -129,6 +143,36 @@ round-unique a (pos m) r h l u =
     ≤-antisym
     (≤-unless r s (λ g. omega (arith, mul-le-mul-right m (lt-parts g), le? E (nat m) u, lt? (minus (nat m)) F (b .0))))
     (≤-unless s r (λ g. omega (arith, mul-le-mul-right m (lt-parts g), le? F (nat m) (b .1), lt? (minus (nat m)) E l)))
+
+-- equal fractions round alike
+pub round-same : (a d b c : ℤ) → pos 0 <ℤ d → pos 0 <ℤ c → a *ℤ c ≡ b *ℤ d → roundDiv a d ≡ roundDiv b c
+round-same a d b c hd hc e = sym (round-unique a d r hd
+    (<-unless (negℤ d) X (λ l. clashℤ (subst (λ (z : ℤ). (negℤ c *ℤ d) <ℤ z) scaled (mul-lt hd (k .0))) (subst (λ (z : ℤ). (X *ℤ c) ≤ℤ z) (swap-neg d c) (mul-le hc l))))
+    (mul-cancel hc (subst (λ (z : ℤ). z ≤ℤ (d *ℤ c)) scaled (subst (λ (z : ℤ). (Y *ℤ d) ≤ℤ z) (*ℤ-comm c d) (mul-le hd (k .1))))))
+  where
+    r : ℤ
+    r = roundDiv b c
+
+    X : ℤ
+    X = pos 2 *ℤ (r *ℤ d -ℤ a)
+
+    Y : ℤ
+    Y = pos 2 *ℤ (r *ℤ c -ℤ b)
+
+    k : (negℤ c <ℤ Y) × (Y ≤ℤ c)
+    k = round-halves b c hc
+
+    swap-neg : (d c : ℤ) → negℤ d *ℤ c ≡ negℤ c *ℤ d
+    swap-neg d c = ring (d ∷ c ∷ []) (search polynomials depth 20 fits 9000) refl
+
+    left : (r a d c : ℤ) → pos 2 *ℤ (r *ℤ d -ℤ a) *ℤ c ≡ pos 2 *ℤ (r *ℤ c *ℤ d -ℤ a *ℤ c)
+    left r a d c = ring (r ∷ a ∷ d ∷ c ∷ []) (search polynomials depth 20 fits 9000) refl
+
+    right : (r b d c : ℤ) → pos 2 *ℤ (r *ℤ c *ℤ d -ℤ b *ℤ d) ≡ pos 2 *ℤ (r *ℤ c -ℤ b) *ℤ d
+    right r b d c = ring (r ∷ b ∷ d ∷ c ∷ []) (search polynomials depth 20 fits 9000) refl
+
+    scaled : Y *ℤ d ≡ X *ℤ c
+    scaled = sym (left r a d c ∙ ap (λ (z : ℤ). pos 2 *ℤ (r *ℤ c *ℤ d -ℤ z)) e ∙ right r b d c)
 
 -- `roundDiv a d` is the nearest whole number, halves upwards, and nothing else is
 pub round-nearest : (a d : ℤ) → pos 0 <ℤ d → Nearest a d (roundDiv a d)

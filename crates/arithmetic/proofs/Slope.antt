@@ -1,16 +1,16 @@
 -- The exact interpolant has a slope of at most 1/4 over the whole line, where every segment has: by recursion over the points.
 -- No case asks in which segment the other place lies. Assumes nothing.
-use mathlib.Core.Path.{_≡_, refl, _∙_, ap, subst}
+use mathlib.Core.Path.{_≡_, refl, ap, subst}
 use mathlib.Core.Bool.{cond}
 use mathlib.Core.List.{List, [], _∷_}
 use mathlib.Core.Logic.{⊎-elim}
 use Prim.Native.Nat.{ℕ, _*_, _≤_}
 use native.Mathlib.Omega.{arith}
 use native.Mathlib.Nat.{mul-le-mul-right, mul-le-mul-left}
-use lib.IntN.{ℤ, pos, negℤ, natAbs, _+ℤ_, _-ℤ_, _*ℤ_}
+use lib.IntN.{ℤ, pos, natAbs, _+ℤ_, _-ℤ_, _*ℤ_}
 use lib.Signed.{leZ, _≤ℤ_, _<ℤ_, ≤ℤ-refl, clashℤ}
 use Rattle.integers.proofs.Order.{pick, le-yes, le-no, yes-le, ≤-or->, ≤-trans, <-≤, mul-le}
-use Rattle.integers.proofs.Magnitude.{abs-mul, abs-neg, abs-sum2, abs-between}
+use Rattle.integers.proofs.Magnitude.{abs-mul, abs-sum2, abs-swap, abs-between}
 use Rattle.integers.proofs.Ring.{ring, polynomials}
 use Rattle.arithmetic.specs.Fraction.{Fraction, _over_, whole}
 use Rattle.arithmetic.specs.Table.{Point, column, place, betweenF, interpolatedF, Rising, Gentle}
@@ -132,15 +132,9 @@ rising-slope j (p ∷ (q ∷ rest)) m a b h k g l =
     (λ by. clashℤ (le-no ay) (≤-trans l (le-yes by)))
     (λ by. rising-slope j (q ∷ rest) m a b h (k .1) (g .1) l))))
 
-turned : (a b : ℤ) → natAbs (a -ℤ b) ≡ natAbs (b -ℤ a)
-turned a b = ap natAbs (negated a b) ∙ abs-neg (b -ℤ a)
-  where
-    negated : (a b : ℤ) → a -ℤ b ≡ negℤ (b -ℤ a)
-    negated a b = ring (a ∷ b ∷ []) (search polynomials depth 20 fits 9000) refl
-
 -- whichever place is the larger
 pub exact-slope : (j : ℕ) (table : List Point) (m a b : ℤ) → pos 0 <ℤ m → Rising table → Gentle j table → Quarter m a (interpolatedF j table (a over m)) b (interpolatedF j table (b over m))
 exact-slope j table m a b h k g = ⊎-elim (λ l. rising-slope j table m a b h k g l) (λ l. turn (rising-slope j table m b a h k g (<-≤ l))) (≤-or-> a b)
   where
     turn : {s t : Fraction} → Quarter m b s a t → Quarter m a t b s
-    turn {s} {t} z = record { slope = rw (turned (s .top *ℤ t .low) (t .top *ℤ s .low), turned b a) (omega (arith, z .slope)) }
+    turn {s} {t} z = record { slope = rw (abs-swap (s .top *ℤ t .low) (t .top *ℤ s .low), abs-swap b a) (omega (arith, z .slope)) }

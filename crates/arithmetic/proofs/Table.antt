@@ -3,7 +3,7 @@
 use mathlib.Core.Path.{_≡_, refl, _∙_, ap}
 use mathlib.Core.Bool.{cond}
 use mathlib.Core.List.{List, [], _∷_}
-use Prim.Native.Nat.{ℕ, zero, suc, _<_}
+use Prim.Native.Nat.{ℕ, zero, suc, _<_, _≤_}
 use native.Mathlib.Omega.{arith}
 use lib.IntN.{ℤ, _+ℤ_, _-ℤ_, _*ℤ_}
 use lib.ListN.{length, getD}
@@ -12,7 +12,7 @@ use Rattle.integers.specs.Within.{_within_}
 use Rattle.integers.proofs.Parts.{le-parts}
 use Rattle.integers.proofs.Difference.{⟨_⟩, _⊕_, _⊝_, _⊗_, le!, le?, eq! }
 use Rattle.integers.proofs.Order.{pick, le-yes, le-no, yes-le, no-le, product, gap-pos, <-≤}
-use Rattle.integers.proofs.Magnitude.{within-of, within-most, within-least}
+use Rattle.integers.proofs.Magnitude.{within-of, within-most, within-least, within-more}
 use Rattle.arithmetic.specs.Round.{roundDiv}
 use Rattle.arithmetic.specs.Table.{Point, column, place, between, interpolated, Each, Rising, ColumnWithin}
 use Rattle.arithmetic.proofs.Round.{round-at-least, round-at-most, round-whole}
@@ -91,3 +91,6 @@ interpolated-within j [] t h = record { abs = omega arith }
 interpolated-within {n} j (p ∷ rest) t h =
     let b = interpolated-hull j p rest t (each-map (λ q k. record { least = within-least k; most = within-most k }) (p ∷ rest) h) in
     within-of (b .least) (b .most)
+
+pub column-within-more : (j m n : ℕ) (table : List Point) → m ≤ n → ColumnWithin j m table → ColumnWithin j n table
+column-within-more j m n table l h = each-map (λ p k. within-more k l) table h

@@ -1,8 +1,9 @@
 // A table of up to five points, rows of three figures.
 ghost use mathlib.Core.Path.{_≡_};
 ghost use Prim.Native.Nat.{_<_};
-ghost use lib.ListN.{take};
-ghost use Rattle.arithmetic.specs.Table.{interpolated};
+ghost use mathlib.Core.List.{[]};
+ghost use lib.ListN.{getD, take};
+ghost use Rattle.arithmetic.specs.Table.{column, interpolated};
 ghost use Rattle.arithmetic.specs.Segment.{below, Found};
 use crate::interpolation::line_at;
 
@@ -23,6 +24,14 @@ pub fn count_below(rows: [[i64; 3]; 5], count: usize, t: i64) -> usize
     k
 }
 
+// One figure of the table.
+fn figure(rows: [[i64; 3]; 5], i: usize, j: usize) -> i64
+    requires { ⌜ (i < 5) × (j < 3) ⌝ }
+    ensures { λ r. ⌜ r ≡ column j (getD rows i []) ⌝ }
+{
+    rows[i][j]
+}
+
 // Column j at t of the first `count` rows, of which k lie below t.
 pub fn value_at(rows: [[i64; 3]; 5], count: usize, k: usize, j: usize, t: i64) -> i64
     requires { ⌜ j < 3 ⌝ }
@@ -33,15 +42,20 @@ pub fn value_at(rows: [[i64; 3]; 5], count: usize, k: usize, j: usize, t: i64) -
         return 0;
     }
     if k == 0 {
-        return rows[0][j];
+        return figure(rows, 0, j);
     }
-    let p = rows[k - 1];
+    let v1 = figure(rows, k - 1, j);
     if count <= k {
-        return p[j];
+        return v1;
     }
-    if k < 5 {
-        let q = rows[k];
-        return line_at(p[0], p[j], q[0], q[j], t);
+    if 5 <= k {
+        return v1;
     }
-    p[j]
+    line_at(
+        figure(rows, k - 1, 0),
+        v1,
+        figure(rows, k, 0),
+        figure(rows, k, j),
+        t,
+    )
 }

@@ -1,7 +1,9 @@
 // A table of up to seven points, rows of two figures.
 ghost use mathlib.Core.Path.{_≡_};
-ghost use lib.ListN.{take};
-ghost use Rattle.arithmetic.specs.Table.{interpolated};
+ghost use mathlib.Core.List.{[]};
+ghost use Prim.Native.Nat.{_<_};
+ghost use lib.ListN.{getD, take};
+ghost use Rattle.arithmetic.specs.Table.{column, interpolated};
 ghost use Rattle.arithmetic.specs.Segment.{below, Found};
 use crate::interpolation::line_at;
 
@@ -22,6 +24,14 @@ pub fn count_below(rows: [[i64; 2]; 7], count: usize, t: i64) -> usize
     k
 }
 
+// One figure of the table.
+fn figure(rows: [[i64; 2]; 7], i: usize, j: usize) -> i64
+    requires { ⌜ (i < 7) × (j < 2) ⌝ }
+    ensures { λ r. ⌜ r ≡ column j (getD rows i []) ⌝ }
+{
+    rows[i][j]
+}
+
 // Column 1 at t of the first `count` rows, of which k lie below t.
 pub fn value_at(rows: [[i64; 2]; 7], count: usize, k: usize, t: i64) -> i64
     requires { ⌜ Found 1 t (take count rows) k ⌝ }
@@ -31,15 +41,20 @@ pub fn value_at(rows: [[i64; 2]; 7], count: usize, k: usize, t: i64) -> i64
         return 0;
     }
     if k == 0 {
-        return rows[0][1];
+        return figure(rows, 0, 1);
     }
-    let p = rows[k - 1];
+    let v1 = figure(rows, k - 1, 1);
     if count <= k {
-        return p[1];
+        return v1;
     }
-    if k < 7 {
-        let q = rows[k];
-        return line_at(p[0], p[1], q[0], q[1], t);
+    if 7 <= k {
+        return v1;
     }
-    p[1]
+    line_at(
+        figure(rows, k - 1, 0),
+        v1,
+        figure(rows, k, 0),
+        figure(rows, k, 1),
+        t,
+    )
 }

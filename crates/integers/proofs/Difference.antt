@@ -1,11 +1,11 @@
 -- A whole number as a difference of naturals, p − n, found from the way it is written. `le!`, `lt!`, `eq!` turn a goal about
--- integers into one about naturals for `omega`; `le?`, `lt?`, `eq?` turn a hypothesis. Assumes nothing.
+-- integers into one about naturals for `omega`; `le?` and `lt?` turn a hypothesis. Assumes nothing.
 use mathlib.Core.Path.{_≡_, refl, ap}
 use Prim.Native.Nat.{ℕ, _+_, _*_, _<_, _≤_}
 use native.Mathlib.Omega.{arith}
 use lib.IntN.{ℤ, pos, negsuc, negℤ, natAbs, _+ℤ_, _-ℤ_, _*ℤ_}
 use lib.Signed.{_≤ℤ_, _<ℤ_}
-use Rattle.integers.proofs.Parts.{posPart, negPart, add-parts, mul-parts, neg-pos-part, neg-neg-part, le-parts, lt-parts, eq-parts, parts-le, parts-lt, parts-eq, abs-parts}
+use Rattle.integers.proofs.Parts.{posPart, negPart, add-parts, mul-parts, neg-pos-part, neg-neg-part, le-parts, lt-parts, parts-le, parts-lt, parts-eq, abs-parts}
 
 -- z = p − n
 pub record Difference (z : ℤ) : Type 0 where
@@ -59,9 +59,6 @@ module _ {a b : ℤ} (A : Difference a) (B : Difference b) where
 
   pub lt? : a <ℤ b → A .p + B .n < B .p + A .n
   lt? h = omega (arith, lt-parts h, A .is, B .is)
-
-  pub eq? : a ≡ b → A .p + B .n ≡ B .p + A .n
-  eq? h = omega (arith, eq-parts h, A .is, B .is)
 
 -- ---- magnitudes
 

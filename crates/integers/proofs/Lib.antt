@@ -4,7 +4,7 @@
 -- 1. Orders and equations (Parts, Difference, Order). `omega` reads naturals alone. `le!`, `lt!`, `eq!` turn a goal about
 --    integers into one about naturals, given how its two sides are written: `⟨ a ⟩` for a term that is not looked into, `nat 3`
 --    for a literal, `⊕ ⊝ ⊗ minus` for + − · and negation. `omega ints` reads a hypothesis whose sides are such terms by
---    itself; one with a compound side is opened by `le?`, `lt?`, `eq?`. From h : (a +ℤ pos 3) ≤ℤ (b -ℤ c) and pos 1 <ℤ c,
+--    itself; one with a compound side is opened by `le?` or `lt?`. From h : (a +ℤ pos 3) ≤ℤ (b -ℤ c) and pos 1 <ℤ c,
 --        le! (⟨ a ⟩ ⊕ nat 5) ⟨ b ⟩ (omega (ints, le? (⟨ a ⟩ ⊕ nat 3) (⟨ b ⟩ ⊝ ⟨ c ⟩) h))     : (a +ℤ pos 5) ≤ℤ b
 --    `omega` multiplies no hypotheses: hand it the product of two by `product`. A test and the fact that it tells are turned
 --    into each other by `lt-yes`, `le-no`, `yes-le`, .., and `pick` splits a `cond`.

@@ -8,14 +8,13 @@ use native.Mathlib.Omega.{arith}
 use native.Mathlib.Nat.{mul-le-mul, le-refl, le-trans}
 use lib.Dec.{T, leb, ltb, leb→le, ltb→lt}
 use lib.IntN.{ℤ, pos, negsuc, negℤ, natAbs, _+ℤ_, _*ℤ_}
-use lib.Signed.{mag, ltZ, leZ, _≤ℤ_, _<ℤ_}
+use lib.Signed.{mag, _<ℤ_}
 use mir.Syntax.{Width, w64}
 use mir.Val.{SFits, toZ, ofZ, hbits}
 use mir.ValLaws.{toZ-ofZ}
 use Rattle.integers.specs.Within.{_within_}
 use Rattle.integers.proofs.Parts.{posPart, negPart, abs-parts, lt-parts}
 use Rattle.integers.proofs.Difference.{Difference, ⟨_⟩}
-use Rattle.integers.proofs.Order.{lt-yes, lt-no, le-yes, le-no}
 use Rattle.integers.proofs.Magnitude.{abs-neg, abs-add, abs-mul}
 
 -- ---- ranges
@@ -123,17 +122,10 @@ module _ {a b : ℤ} (A : Computed a) (B : Computed b) (t : T (A .fit && B .fit)
   pub lt-plain : A .v <ℤ B .v → a <ℤ b
   lt-plain h = rw (A .is (and-left (A .fit) (B .fit) t), B .is (and-right (A .fit) (B .fit) t)) h
 
--- ---- a test of two values of which no more is known than that they fit
+-- a test of equality compares bits
+pub eq-bits : (w : Width) (x y : ℤ) → SFits w x → SFits w y → ofZ w x ≡ ofZ w y → x ≡ y
+eq-bits w x y f g e = sym (toZ-ofZ w x f) ∙ ap (toZ w) e ∙ toZ-ofZ w y g
 
-module _ {x y : ℤ} (f : SFits w64 x) (g : SFits w64 y) where
-  pub was-lt : ltZ (toZ w64 (ofZ w64 x)) (toZ w64 (ofZ w64 y)) ≡ true → x <ℤ y
-  was-lt e = lt-yes (simp (toZ-ofZ, f, g) at e)
-
-  pub not-lt : ltZ (toZ w64 (ofZ w64 x)) (toZ w64 (ofZ w64 y)) ≡ false → y ≤ℤ x
-  not-lt e = lt-no (simp (toZ-ofZ, f, g) at e)
-
-  pub was-le : leZ (toZ w64 (ofZ w64 x)) (toZ w64 (ofZ w64 y)) ≡ true → x ≤ℤ y
-  was-le e = le-yes (simp (toZ-ofZ, f, g) at e)
-
-  pub not-le : leZ (toZ w64 (ofZ w64 x)) (toZ w64 (ofZ w64 y)) ≡ false → y <ℤ x
-  not-le e = le-no (simp (toZ-ofZ, f, g) at e)
+-- a call's result, through the bits and back, is what its contract says
+pub held : {z v : ℤ} → mag z < 2 ^ hbits w64 → z ≡ v → toZ w64 (ofZ w64 z) ≡ v
+held {z} f e = toZ-ofZ w64 z (record { sfits = f }) ∙ e

@@ -9,7 +9,7 @@ use lib.IntN.{ℤ, pos, negsuc, negℤ, natAbs, subℕ, _+ℤ_, _-ℤ_, _*ℤ_}
 use lib.Signed.{_≤ℤ_, _<ℤ_}
 use Rattle.integers.specs.Within.{_within_}
 use Rattle.integers.proofs.Parts.{posPart, negPart, abs-parts, nonneg-parts, ints}
-use Rattle.integers.proofs.Difference.{⟨_⟩, nat, minus, _⊝_, le!, le?, abs! }
+use Rattle.integers.proofs.Difference.{⟨_⟩, nat, minus, _⊝_, le!, eq!, le?, abs! }
 use Rattle.integers.proofs.Order.{≤-trans}
 
 -- ---- |z|
@@ -44,6 +44,13 @@ abs-sum2 a b e = rw e (abs-add a b)
 
 pub abs-sum3 : {x : ℤ} (a b c : ℤ) → x ≡ a +ℤ b +ℤ c → natAbs x ≤ natAbs a + natAbs b + natAbs c
 abs-sum3 a b c e = rw e (omega (arith, abs-add (a +ℤ b) c, abs-add a b))
+
+-- a distance has no direction
+pub abs-swap : (a b : ℤ) → natAbs (a -ℤ b) ≡ natAbs (b -ℤ a)
+abs-swap a b = rw (turned a b) (abs-neg (b -ℤ a))
+  where
+    turned : (a b : ℤ) → a -ℤ b ≡ negℤ (b -ℤ a)
+    turned a b = eq! (⟨ a ⟩ ⊝ ⟨ b ⟩) (minus (⟨ b ⟩ ⊝ ⟨ a ⟩)) (omega arith)
 
 pub abs-pos : {a : ℤ} → pos 0 <ℤ a → 0 < natAbs a
 abs-pos {a} h = omega (ints, abs-parts a)

@@ -56,6 +56,20 @@ no-le {a} {b} h = by (leZ a b) refl
     by true e = clashℤ h (le-yes e)
     by false e = e
 
+pub yes-lt : {a b : ℤ} → a <ℤ b → ltZ a b ≡ true
+yes-lt {a} {b} h = by (ltZ a b) refl
+  where
+    by : (t : Bool) → ltZ a b ≡ t → ltZ a b ≡ true
+    by true e = e
+    by false e = clashℤ h (lt-no e)
+
+pub no-lt : {a b : ℤ} → b ≤ℤ a → ltZ a b ≡ false
+no-lt {a} {b} h = by (ltZ a b) refl
+  where
+    by : (t : Bool) → ltZ a b ≡ t → ltZ a b ≡ false
+    by true e = clashℤ (lt-yes e) h
+    by false e = e
+
 -- ---- laws of the order
 
 pub ≤-or-> : (a b : ℤ) → (a ≤ℤ b) ⊎ (b <ℤ a)
@@ -65,9 +79,12 @@ pub ≤-or-> : (a b : ℤ) → (a ≤ℤ b) ⊎ (b <ℤ a)
     by true e = inl (le-yes e)
     by false e = inr (le-no e)
 
--- a ≤ b, since a > b is impossible
+-- a ≤ b since b < a is impossible, a < b since b ≤ a is
 pub ≤-unless : (a b : ℤ) → (b <ℤ a → ⊥) → a ≤ℤ b
 ≤-unless a b f = ⊎-elim (λ h. h) (λ h. absurd (f h)) (≤-or-> a b)
+
+pub <-unless : (a b : ℤ) → (b ≤ℤ a → ⊥) → a <ℤ b
+<-unless a b f = ⊎-elim (λ h. absurd (f h)) (λ h. h) (≤-or-> b a)
 
 pub ≤-trans : {a b c : ℤ} → a ≤ℤ b → b ≤ℤ c → a ≤ℤ c
 ≤-trans {a} {b} {c} h k = parts-le a c (omega ints)

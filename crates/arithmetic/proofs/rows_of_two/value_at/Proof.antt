@@ -1,149 +1,98 @@
 -- `value_at` meets its contract: first value, last value or the line, by where k stands in the table. Assumes nothing.
 use mathlib.Core.Path.{_≡_, _∙_}
-use mathlib.Core.List.{[]}
-use Prim.Native.Nat.{_-_, _≤_}
+use Prim.Native.Nat.{_≤_}
 use native.Mathlib.Omega.{arith}
 use borrow.Author.Needs.{needs}
-use lib.IntN.{ℤ}
-use lib.ListN.{length, getD, length-take}
+use lib.ListN.{length, length-take}
 use mir.Syntax.{w64}
-use mir.Val.{toZ, ofZ}
 use mir.ValLaws.{toZ-ofZ}
-use Rattle.arithmetic.specs.Table.{Point, column, place, interpolated}
+use Rattle.integers.proofs.Machine.{held}
+use Rattle.arithmetic.specs.Table.{interpolated}
 use Rattle.arithmetic.proofs.Rows.{found-inside, value-first, value-last, value-line, value-segment}
 use Rattle.arithmetic.proofs.rows_of_two.value_at.Statement.{statement}
 use Rattle.arithmetic.proofs.rows_of_two.value_at.Tie as tie
 
 inside : (s : tie.Start) → (s .args .k ≤ s .args .count) × (s .args .k ≤ 7)
 inside s =
-    let seven : length (s .args .t1) ≡ 7 = search needs in
-    let h = found-inside 1 (s .args .t) (s .args .t1) (s .args .count) (s .args .k) (s .pre) in
+    let seven : length (s .args .rows) ≡ 7 = search needs in
+    let h = found-inside 1 (s .args .t) (s .args .rows) (s .args .count) (s .args .k) (s .pre) in
     (omega arith, omega arith)
 
 returns : tie.Need-returns
 unfolding interpolated
 returns c = rw (c .if1 .taken)
 
-index-1-result : tie.Need-index-1-result
-index-1-result c = search needs
-
-index-2-result : tie.Need-index-2-result
-index-2-result c = search needs
+figure-requires : tie.Need-figure-requires
+figure-requires c κs = search needs
 
 returns-2 : tie.Need-returns-2
 returns-2 c =
     let s = c .before .before .before in
     let a = s .args in
-    let v : toZ w64 (ofZ w64 (column 1 (getD (a .t1) 0 []))) ≡ column 1 (getD (a .t1) 0 []) = search needs in
-    v ∙ value-first 1 (a .t) (a .t1) (a .count) (a .k) (s .pre) (omega arith) (c .before .if2 .taken)
+    held (c .figure .ok) (c .figure .ensures) ∙ value-first 1 (a .t) (a .rows) (a .count) (a .k) (s .pre) (omega arith) (c .before .if2 .taken)
 
-sub-p : tie.Need-sub-p
-sub-p c = search needs
+sub-figure : tie.Need-sub-figure
+sub-figure c = search needs
 
-mul-p : tie.Need-mul-p
-mul-p c = let h = inside (c .before .before) in search needs
-
-array-copy-out-p : tie.Need-array-copy-out-p
-array-copy-out-p c = let h = inside (c .before .before) in search needs
-
-array-copy-out-result : tie.Need-array-copy-out-result
-array-copy-out-result c = search needs
+figure-requires-2 : tie.Need-figure-requires-2
+figure-requires-2 c κs = let h = inside (c .before .before) in search needs
 
 returns-3 : tie.Need-returns-3
 returns-3 c =
-    let s = c .before .before .before .before .before in
+    let s = c .before .before .before .before in
     let a = s .args in
-    let v : toZ w64 (ofZ w64 (column 1 (getD (a .t1) (a .k - 1) []))) ≡ column 1 (getD (a .t1) (a .k - 1) []) = search needs in
-    v ∙ value-last 1 (a .t) (a .t1) (a .count) (a .k) (s .pre) (omega arith) (simp length-take (omega arith))
-
-mul-q : tie.Need-mul-q
-mul-q c = search needs
-
-array-copy-out-q : tie.Need-array-copy-out-q
-array-copy-out-q c = search needs
-
-array-copy-out-line-at : tie.Need-array-copy-out-line-at
-array-copy-out-line-at c = search needs
-
-array-copy-out-line-at-2 : tie.Need-array-copy-out-line-at-2
-array-copy-out-line-at-2 c = search needs
-
-array-copy-out-line-at-3 : tie.Need-array-copy-out-line-at-3
-array-copy-out-line-at-3 c = search needs
-
-array-copy-out-line-at-4 : tie.Need-array-copy-out-line-at-4
-array-copy-out-line-at-4 c = search needs
-
--- the figures of the neighbours and t, as the machine holds them
-module _ (c : tie.After-line-at-arg4) where
-  start : tie.Start
-  start = c .before .before .before .before .before .before .before .before .before .before
-
-  p : Point
-  p = getD (start .args .t1) (start .args .k - 1) []
-
-  q : Point
-  q = getD (start .args .t1) (start .args .k) []
-
-  held : ℤ → Type 0
-  held z = toZ w64 (ofZ w64 z) ≡ z
-
-  all-held : held (place p) × held (column 1 p) × held (place q) × held (column 1 q) × held (start .args .t)
-  unfolding start p q held
-  all-held = (search needs, search needs, search needs, search needs, search needs)
-
-line-at-requires : tie.Need-line-at-requires
-unfolding start p q held
-line-at-requires c κs =
-    let s = start c in
-    let a = s .args in
-    let h = all-held c in
-    let seven : length (a .t1) ≡ 7 = search needs in
-    rw (h .0, h .1, h .2, h .3, h .4)
-    (value-segment 1 (a .t) (a .t1) (a .count) (a .k) (s .pre) (omega arith) (omega arith) (omega arith))
+    held (c .before .figure2 .ok) (c .before .figure2 .ensures) ∙ value-last 1 (a .t) (a .rows) (a .count) (a .k) (s .pre) (omega arith) (simp length-take (omega arith))
 
 returns-4 : tie.Need-returns-4
-unfolding start p q held
 returns-4 c =
-    let s = start (c .before) in
+    let s = c .before .before .before .before .before in
     let a = s .args in
-    let h = all-held (c .before) in
-    let seven : length (a .t1) ≡ 7 = search needs in
-    toZ-ofZ w64 _ (record { sfits = c .line-at .ok })
-    ∙ (rw (h .0, h .1, h .2, h .3, h .4) at (c .line-at .ensures))
-    ∙ value-line 1 (a .t) (a .t1) (a .count) (a .k) (s .pre) (omega arith) (omega arith) (omega arith)
+    let seven : length (a .rows) ≡ 7 = search needs in
+    held (c .before .before .figure2 .ok) (c .before .before .figure2 .ensures) ∙ value-last 1 (a .t) (a .rows) (a .count) (a .k) (s .pre) (omega arith) (simp length-take (omega arith))
 
-array-copy-out-result-2 : tie.Need-array-copy-out-result-2
-array-copy-out-result-2 c = search needs
+sub-figure-2 : tie.Need-sub-figure-2
+sub-figure-2 c = search needs
+
+figure-requires-3 : tie.Need-figure-requires-3
+figure-requires-3 c κs = search needs
+
+figure-requires-4 : tie.Need-figure-requires-4
+figure-requires-4 c κs = search needs
+
+figure-requires-5 : tie.Need-figure-requires-5
+figure-requires-5 c κs = search needs
+
+line-at-requires : tie.Need-line-at-requires
+line-at-requires c κs =
+    let s = c .before .before .before .before .before .before .before .before in
+    let a = s .args in
+    let seven : length (a .rows) ≡ 7 = search needs in
+    rw (held (c .before .before .figure3 .ok) (c .before .before .figure3 .ensures), held (c .before .before .before .before .before .figure2 .ok) (c .before .before .before .before .before .figure2 .ensures), held (c .before .figure4 .ok) (c .before .figure4 .ensures), held (c .figure5 .ok) (c .figure5 .ensures), toZ-ofZ w64 (a .t) (s .fits .t))
+    (value-segment 1 (a .t) (a .rows) (a .count) (a .k) (s .pre) (omega arith) (omega arith) (omega arith))
 
 returns-5 : tie.Need-returns-5
 returns-5 c =
-    let s = c .before .before .before .before .before .before in
+    let s = c .before .before .before .before .before .before .before .before .before in
     let a = s .args in
-    let seven : length (a .t1) ≡ 7 = search needs in
-    let v : toZ w64 (ofZ w64 (column 1 (getD (a .t1) (a .k - 1) []))) ≡ column 1 (getD (a .t1) (a .k - 1) []) = search needs in
-    v ∙ value-last 1 (a .t) (a .t1) (a .count) (a .k) (s .pre) (omega arith) (simp length-take (omega arith))
+    let seven : length (a .rows) ≡ 7 = search needs in
+    toZ-ofZ w64 _ (record { sfits = c .line-at .ok })
+    ∙ (rw (held (c .before .before .before .figure3 .ok) (c .before .before .before .figure3 .ensures), held (c .before .before .before .before .before .before .figure2 .ok) (c .before .before .before .before .before .before .figure2 .ensures), held (c .before .before .figure4 .ok) (c .before .before .figure4 .ensures), held (c .before .figure5 .ok) (c .before .figure5 .ensures), toZ-ofZ w64 (a .t) (s .fits .t)) at (c .line-at .ensures))
+    ∙ value-line 1 (a .t) (a .rows) (a .count) (a .k) (s .pre) (omega arith) (omega arith) (omega arith)
 
 pub value-at-spec : {M : Type 1} → statement M
 value-at-spec =
     tie.close
     (tie.spec
     returns
-    index-1-result
-    index-2-result
+    figure-requires
     returns-2
-    sub-p
-    mul-p
-    array-copy-out-p
-    array-copy-out-result
+    sub-figure
+    figure-requires-2
     returns-3
-    mul-q
-    array-copy-out-q
-    array-copy-out-line-at
-    array-copy-out-line-at-2
-    array-copy-out-line-at-3
-    array-copy-out-line-at-4
-    line-at-requires
     returns-4
-    array-copy-out-result-2
+    sub-figure-2
+    figure-requires-3
+    figure-requires-4
+    figure-requires-5
+    line-at-requires
     returns-5)
