@@ -1,0 +1,5 @@
+pub mod Limits
+pub mod Acceptable
+pub mod Default
+pub mod Representable
+pub mod Unused
