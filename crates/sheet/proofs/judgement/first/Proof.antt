@@ -1,0 +1,15 @@
+-- The first of two numbers that is not 0. Assumes nothing.
+use Rattle.sheet.proofs.Chain.{then-stop}
+use mathlib.Core.Path.{sym}
+use borrow.Author.Needs.{needs}
+use Rattle.sheet.proofs.judgement.first.Statement.{statement}
+use Rattle.sheet.proofs.judgement.first.Tie as tie
+
+returns : tie.Need-returns
+returns c = sym (then-stop _ _ (c .if1 .taken))
+
+returns-2 : tie.Need-returns-2
+returns-2 c = search needs
+
+pub first-spec : {M : Type 1} → statement M
+first-spec = tie.close (tie.spec returns returns-2)

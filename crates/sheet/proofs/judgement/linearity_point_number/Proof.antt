@@ -1,0 +1,64 @@
+-- The number of each figure is its definition's, and the first fault counts. Assumes nothing.
+use Rattle.figures.specs.Default.{noLinearity}
+use Rattle.sheet.specs.Judge.{_then_, linearityPointNumber}
+use lib.ListN.{getD}
+use mathlib.Core.Path.{_∙_, _≡_, ap₂}
+use mir.Syntax.{w64}
+use mir.Val.{ofZ, toZ}
+use borrow.Author.Needs.{needs}
+use Rattle.sheet.proofs.judgement.linearity_point_number.Statement.{statement}
+use Rattle.sheet.proofs.judgement.linearity_point_number.Tie as tie
+
+mul-point : tie.Need-mul-point
+mul-point c = search needs
+
+array-copy-out-point : tie.Need-array-copy-out-point
+array-copy-out-point c = search needs
+
+figure-number-requires : tie.Need-figure-number-requires
+figure-number-requires c κs = search needs
+
+linearity-rise-requires : tie.Need-linearity-rise-requires
+linearity-rise-requires c κs = search needs
+
+add-figure-number : tie.Need-add-figure-number
+add-figure-number c = search needs
+
+figure-number-requires-2 : tie.Need-figure-number-requires-2
+figure-number-requires-2 c κs = search needs
+
+linearity-steep-requires : tie.Need-linearity-steep-requires
+linearity-steep-requires c κs = search needs
+
+first-requires : tie.Need-first-requires
+first-requires c κs = search needs
+
+first-requires-2 : tie.Need-first-requires-2
+first-requires-2 c κs = search needs
+
+first-requires-3 : tie.Need-first-requires-3
+first-requires-3 c κs = search needs
+
+returns : tie.Need-returns
+unfolding linearityPointNumber
+returns c =
+    let s = c .before .before .before .before .before .before .before .before .before .before in
+    let b1 : toZ w64 (ofZ w64 (getD (s .args .t3) (s .args .i) noLinearity .clx)) ≡ getD (s .args .t3) (s .args .i) noLinearity .clx = search needs in
+    let b2 : toZ w64 (ofZ w64 (getD (s .args .t3) (s .args .i) noLinearity .clk)) ≡ getD (s .args .t3) (s .args .i) noLinearity .clk = search needs in
+    c .first3 .ensures ∙ ap₂ _then_ (rw b1 at (c .before .before .before .before .before .before .before .figure-number .ensures)) (c .before .first2 .ensures ∙ ap₂ _then_ (c .before .before .before .before .before .before .linearity-rise .ensures) (c .before .before .first .ensures ∙ ap₂ _then_ (rw b2 at (c .before .before .before .before .figure-number2 .ensures)) (c .before .before .before .linearity-steep .ensures)))
+
+pub linearity-point-number-spec : {M : Type 1} → statement M
+linearity-point-number-spec =
+    tie.close
+    (tie.spec
+    mul-point
+    array-copy-out-point
+    figure-number-requires
+    linearity-rise-requires
+    add-figure-number
+    figure-number-requires-2
+    linearity-steep-requires
+    first-requires
+    first-requires-2
+    first-requires-3
+    returns)

@@ -1,0 +1,69 @@
+-- The number of each figure is its definition's, and the first fault counts. Assumes nothing.
+use Rattle.figures.specs.Default.{noTemperature}
+use Rattle.sheet.specs.Judge.{_then_, temperaturePointNumber}
+use lib.ListN.{getD}
+use mathlib.Core.Path.{_∙_, _≡_, ap₂}
+use mir.Syntax.{w64}
+use mir.Val.{ofZ, toZ}
+use borrow.Author.Needs.{needs}
+use Rattle.sheet.proofs.judgement.temperature_point_number.Statement.{statement}
+use Rattle.sheet.proofs.judgement.temperature_point_number.Tie as tie
+
+mul-point : tie.Need-mul-point
+mul-point c = search needs
+
+array-copy-out-point : tie.Need-array-copy-out-point
+array-copy-out-point c = search needs
+
+figure-number-requires : tie.Need-figure-number-requires
+figure-number-requires c κs = search needs
+
+temperature-rise-requires : tie.Need-temperature-rise-requires
+temperature-rise-requires c κs = search needs
+
+add-figure-number : tie.Need-add-figure-number
+add-figure-number c = search needs
+
+figure-number-requires-2 : tie.Need-figure-number-requires-2
+figure-number-requires-2 c κs = search needs
+
+add-figure-number-2 : tie.Need-add-figure-number-2
+add-figure-number-2 c = search needs
+
+figure-number-requires-3 : tie.Need-figure-number-requires-3
+figure-number-requires-3 c κs = search needs
+
+first-requires : tie.Need-first-requires
+first-requires c κs = search needs
+
+first-requires-2 : tie.Need-first-requires-2
+first-requires-2 c κs = search needs
+
+first-requires-3 : tie.Need-first-requires-3
+first-requires-3 c κs = search needs
+
+returns : tie.Need-returns
+unfolding temperaturePointNumber
+returns c =
+    let s = c .before .before .before .before .before .before .before .before .before .before .before in
+    let b1 : toZ w64 (ofZ w64 (getD (s .args .t3) (s .args .i) noTemperature .ct)) ≡ getD (s .args .t3) (s .args .i) noTemperature .ct = search needs in
+    let b2 : toZ w64 (ofZ w64 (getD (s .args .t3) (s .args .i) noTemperature .cto)) ≡ getD (s .args .t3) (s .args .i) noTemperature .cto = search needs in
+    let b3 : toZ w64 (ofZ w64 (getD (s .args .t3) (s .args .i) noTemperature .ctg)) ≡ getD (s .args .t3) (s .args .i) noTemperature .ctg = search needs in
+    c .first3 .ensures ∙ ap₂ _then_ (rw b1 at (c .before .before .before .before .before .before .before .before .figure-number .ensures)) (c .before .first2 .ensures ∙ ap₂ _then_ (c .before .before .before .before .before .before .before .temperature-rise .ensures) (c .before .before .first .ensures ∙ ap₂ _then_ (rw b2 at (c .before .before .before .before .before .figure-number2 .ensures)) (rw b3 at (c .before .before .before .figure-number3 .ensures))))
+
+pub temperature-point-number-spec : {M : Type 1} → statement M
+temperature-point-number-spec =
+    tie.close
+    (tie.spec
+    mul-point
+    array-copy-out-point
+    figure-number-requires
+    temperature-rise-requires
+    add-figure-number
+    figure-number-requires-2
+    add-figure-number-2
+    figure-number-requires-3
+    first-requires
+    first-requires-2
+    first-requires-3
+    returns)

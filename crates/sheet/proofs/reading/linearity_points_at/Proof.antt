@@ -1,0 +1,67 @@
+-- Invariant: the points before are filled in. Assumes nothing.
+use Prim.Native.Nat.{_-_, _≤_}
+use Rattle.figures.specs.Default.{noLinearity}
+use Rattle.sheet.proofs.Chain.{points-at-next}
+use Rattle.sheet.specs.Read.{linearityPointAt, pointsAt}
+use mathlib.Core.Path.{_∙_, _≡_, ap, refl}
+use native.Mathlib.Omega.{arith}
+use Rattle.sheet.proofs.reading.linearity_points_at.Statement.{statement}
+use Rattle.sheet.proofs.reading.linearity_points_at.Tie as tie
+
+abbrev Inv-loop : tie.InvT-loop
+Inv-loop s at n points₀ i₀ points i = (points ≡ pointsAt noLinearity linearityPointAt 16 7 s at i) × (i ≤ n)
+
+abbrev μ-loop : tie.MeasureT-loop
+μ-loop s at n points₀ i₀ points i = n - i
+
+loop-holds : tie.Need-loop-holds Inv-loop μ-loop
+loop-holds c = (refl, omega arith)
+
+mul-linearity-point-at : tie.Need-mul-linearity-point-at Inv-loop μ-loop
+mul-linearity-point-at c = omega arith
+
+add-linearity-point-at : tie.Need-add-linearity-point-at Inv-loop μ-loop
+add-linearity-point-at c = omega arith
+
+linearity-point-at-requires : tie.Need-linearity-point-at-requires Inv-loop μ-loop
+linearity-point-at-requires c κs = omega arith
+
+mul-points : tie.Need-mul-points Inv-loop μ-loop
+mul-points c = omega arith
+
+array-set-from-points : tie.Need-array-set-from-points Inv-loop μ-loop
+array-set-from-points c = omega arith
+
+add-i : tie.Need-add-i Inv-loop μ-loop
+add-i c = omega arith
+
+loop-less : tie.Need-loop-less Inv-loop μ-loop
+loop-less c = omega arith
+
+loop-again : tie.Need-loop-again Inv-loop μ-loop
+loop-again c =
+    let l = c .before .before .loop in
+    let a = c .before .before .before .before .args in
+    (cc (points-at-next noLinearity linearityPointAt 16 7 (a .s .now) (a .at) (l .i)), omega arith)
+
+returns : tie.Need-returns Inv-loop μ-loop
+returns c =
+    let e : c .before .loop .i ≡ c .before .before .before .args .n = omega arith in
+    c .before .loop .inv .0 ∙ ap (pointsAt noLinearity linearityPointAt 16 7 _ _) e
+
+pub linearity-points-at-spec : {M : Type 1} → statement M
+linearity-points-at-spec =
+    tie.close
+    (tie.spec
+    Inv-loop
+    μ-loop
+    loop-holds
+    mul-linearity-point-at
+    add-linearity-point-at
+    linearity-point-at-requires
+    mul-points
+    array-set-from-points
+    add-i
+    loop-less
+    loop-again
+    returns)

@@ -1,0 +1,34 @@
+-- Figures beside 0, zeros beside a refusal. Assumes nothing.
+use Rattle.sheet.specs.Read.{readSheet}
+use borrow.Author.Tests.{ne-eqb}
+use mathlib.Core.Path.{_∙_, sym}
+use borrow.Author.Needs.{needs}
+use Rattle.sheet.proofs.reading.read.Statement.{statement}
+use Rattle.sheet.proofs.reading.read.Tie as tie
+
+figures-of-requires : tie.Need-figures-of-requires
+figures-of-requires c κs = search needs
+
+sheet-number-requires : tie.Need-sheet-number-requires
+sheet-number-requires c κs = search needs
+
+no-figures-requires : tie.Need-no-figures-requires
+no-figures-requires c κs = search needs
+
+returns : tie.Need-returns
+unfolding readSheet
+returns c =
+    let n = c .before .before .sheet-number .ensures in
+    let e = ne-eqb _ 0 (λ z. c .before .if1 .taken (n ∙ z)) in
+    simp e (cc (n, c .no-figures .ensures))
+
+returns-2 : tie.Need-returns-2
+unfolding readSheet
+returns-2 c =
+    let n = sym (c .before .sheet-number .ensures) ∙ c .if1 .left in
+    simp n (cc (c .before .before .figures-of .ensures))
+
+pub read-spec : {M : Type 1} → statement M
+read-spec =
+    tie.close
+    (tie.spec figures-of-requires sheet-number-requires no-figures-requires returns returns-2)

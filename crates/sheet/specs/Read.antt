@@ -1,0 +1,85 @@
+-- Reading a sheet: the figures that stand at their places, and the number of the sheet's first fault.
+use mathlib.Core.Bool.{cond}
+use mathlib.Core.List.{List}
+use Prim.Native.Nat.{ℕ, zero, suc, _+_, _*_, min}
+use lib.Dec.{eqb}
+use lib.IntN.{pos}
+use lib.ListN.{length, set, replicate}
+use Rattle.figures.specs.Default.{noTemperature, noLinearity}
+use Rattle.figures.specs.declared.Cell.{Cell}
+use Rattle.figures.specs.declared.TemperaturePoint.{TemperaturePoint}
+use Rattle.figures.specs.declared.Temperature.{Temperature}
+use Rattle.figures.specs.declared.LinearityPoint.{LinearityPoint}
+use Rattle.figures.specs.declared.Linearity.{Linearity}
+use Rattle.figures.specs.declared.System.{System}
+use Rattle.figures.specs.declared.Filter.{Filter}
+use Rattle.figures.specs.declared.Calibration.{Calibration}
+use Rattle.sheet.specs.Bytes.{countAt, figureAt}
+use Rattle.sheet.specs.Judge.{_then_, shortOf, trailing, sectionsNumber}
+use Rattle.sheet.specs.declared.Sheet.{Sheet}
+
+-- ---- the sections, each from its place; figures stand in the order of 01's table
+
+unfoldable pub cellAt : List ℕ → ℕ → Cell
+cellAt s at = record { cofs = figureAt s (at + 1); cgai = figureAt s (at + 9); cmin = figureAt s (at + 17); cmax = figureAt s (at + 25) }
+
+unfoldable pub temperaturePointAt : List ℕ → ℕ → TemperaturePoint
+temperaturePointAt s at = record { ct = figureAt s at; cto = figureAt s (at + 8); ctg = figureAt s (at + 16) }
+
+unfoldable pub linearityPointAt : List ℕ → ℕ → LinearityPoint
+linearityPointAt s at = record { clx = figureAt s at; clk = figureAt s (at + 8) }
+
+-- `cap` points of `size` bytes from `at` on: the first n as they stand, the others 0
+abbrev pub pointsAt : {A : Type 0} → A → (List ℕ → ℕ → A) → ℕ → ℕ → List ℕ → ℕ → ℕ → List A
+pointsAt none pointAt size cap s at zero = replicate cap none
+pointsAt none pointAt size cap s at (suc i) = set (pointsAt none pointAt size cap s at i) i (pointAt s (at + size * i))
+
+unfoldable pub temperatureAt : List ℕ → ℕ → Temperature
+temperatureAt s at = record { ctn = countAt s at; points = pointsAt noTemperature temperaturePointAt 24 5 s (at + 1) (min (countAt s at) 5) }
+
+unfoldable pub linearityAt : List ℕ → ℕ → Linearity
+linearityAt s at = record { cln = countAt s at; points = pointsAt noLinearity linearityPointAt 16 7 s (at + 1) (min (countAt s at) 7) }
+
+unfoldable pub systemAt : List ℕ → ℕ → System
+systemAt s at = record { sofs = figureAt s (at + 1); sgai = figureAt s (at + 9); smin = figureAt s (at + 17); smax = figureAt s (at + 25); sz = figureAt s (at + 33) }
+
+unfoldable pub filterAt : List ℕ → ℕ → Filter
+filterAt s at = record { fflv = figureAt s (at + 1); ffst = figureAt s (at + 9) }
+
+-- ---- the sheet
+
+-- where the linearity and the system section start
+abbrev pub linearityPlace : List ℕ → ℕ
+linearityPlace s = 34 + 24 * countAt s 33
+
+abbrev pub systemPlace : List ℕ → ℕ
+systemPlace s = linearityPlace s + 1 + 16 * countAt s (linearityPlace s)
+
+unfoldable pub figuresOf : List ℕ → Calibration
+figuresOf s = record {
+  cell = cellAt s 0;
+  temperature = temperatureAt s 33;
+  linearity = linearityAt s (linearityPlace s);
+  system = systemAt s (systemPlace s);
+  filter = filterAt s (systemPlace s + 41);
+}
+
+-- the five sections, and "7 last"
+unfoldable pub sheetNumber : List ℕ → ℕ
+sheetNumber s =
+    sectionsNumber (shortOf (length s)) (countAt s 0) (countAt s (systemPlace s)) (countAt s (systemPlace s + 41)) (figuresOf s)
+    then trailing (length s) (systemPlace s + 58)
+
+-- "Beside a refusal each value .. is 0"
+unfoldable pub noFigures : Calibration
+noFigures = record {
+  cell = record { cofs = pos 0; cgai = pos 0; cmin = pos 0; cmax = pos 0 };
+  temperature = record { ctn = 0; points = replicate 5 noTemperature };
+  linearity = record { cln = 0; points = replicate 7 noLinearity };
+  system = record { sofs = pos 0; sgai = pos 0; smin = pos 0; smax = pos 0; sz = pos 0 };
+  filter = record { fflv = pos 0; ffst = pos 0 };
+}
+
+-- number 0 and the figures; or the number of the first fault and zeros
+unfoldable pub readSheet : List ℕ → Sheet
+readSheet s = record { number = sheetNumber s; figures = cond (eqb (sheetNumber s) 0) (figuresOf s) noFigures }

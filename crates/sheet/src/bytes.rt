@@ -1,0 +1,123 @@
+// Counts and figures of a sheet: a figure is 8 bytes, two's complement, low byte first.
+ghost use mathlib.Core.Path.{_≡_};
+ghost use Prim.Native.Nat.{_+_, _≤_, _<_, _^_};
+ghost use lib.ListN.{length, getD, take, drop};
+ghost use Rattle.sheet.specs.Bytes.{wordOf, signedOf, countAt, figureAt, unsignedOf};
+ghost use Rattle.sheet.specs.Step.{countStep, figureStep};
+use crate::CountStep;
+use crate::FigureStep;
+
+// The count at a place; 0 past the end.
+pub fn count_at(s: &[u8], at: usize) -> u8
+    ensures { λ r. ⌜ r ≡ countAt (now (s .entry)) at ⌝ }
+{
+    if at < s.len() {
+        return s[at];
+    }
+    0
+}
+
+fn byte_at(s: &[u8], at: usize) -> u64
+    requires { ⌜ at < length (now s) ⌝ }
+    ensures { λ r. ⌜ (r ≡ getD (now (s .entry)) at 0) × (r < 256) ⌝ }
+{
+    s[at] as u64
+}
+
+// Four bytes, low byte first.
+fn half_at(s: &[u8], at: usize) -> u64
+    requires { ⌜ at + 4 ≤ length (now s) ⌝ }
+    ensures { λ r. ⌜ (r ≡ wordOf (take 4 (drop at (now (s .entry))))) × (r < 2 ^ 32) ⌝ }
+{
+    let a = byte_at(s, at);
+    let b = byte_at(s, at + 1);
+    let c = byte_at(s, at + 2);
+    let d = byte_at(s, at + 3);
+    a + b * 256 + c * 65_536 + d * 16_777_216
+}
+
+// Eight bytes, low byte first.
+fn word_at(s: &[u8], at: usize) -> u64
+    requires { ⌜ at + 8 ≤ length (now s) ⌝ }
+    ensures { λ r. ⌜ r ≡ wordOf (take 8 (drop at (now (s .entry)))) ⌝ }
+{
+    half_at(s, at) + half_at(s, at + 4) * 4_294_967_296
+}
+
+// The number whose two's complement the word is.
+fn signed(word: u64) -> i64
+    ensures { λ r. ⌜ r ≡ signedOf word ⌝ }
+{
+    if word < 9_223_372_036_854_775_808 {
+        word as i64
+    } else {
+        -1 - ((18_446_744_073_709_551_615 - word) as i64)
+    }
+}
+
+// The figure at a place; 0 where the sheet ends before it does.
+pub fn figure_at(s: &[u8], at: usize) -> i64
+    ensures { λ r. ⌜ r ≡ figureAt (now (s .entry)) at ⌝ }
+{
+    if s.len() < 8 {
+        return 0;
+    }
+    if s.len() - 8 < at {
+        return 0;
+    }
+    signed(word_at(s, at))
+}
+
+// The word whose two's complement the number is.
+pub fn unsigned(v: i64) -> u64
+    ensures { λ r. ⌜ r ≡ unsignedOf v ⌝ }
+{
+    if v < 0 {
+        return 18_446_744_073_709_551_615 - ((-1 - v) as u64);
+    }
+    v as u64
+}
+
+// The count at a place and the place after it; or 1.
+pub fn next_count(s: &[u8], at: usize) -> CountStep
+    ensures { λ r. ⌜ r ≡ countStep (now (s .entry)) at ⌝ }
+{
+    if s.len() <= at {
+        return CountStep {
+            number: 1,
+            value: 0,
+            at,
+        };
+    }
+    CountStep {
+        number: 0,
+        value: s[at],
+        at: at + 1,
+    }
+}
+
+// The figure at a place and the place after it; or 1.
+pub fn next_figure(s: &[u8], at: usize) -> FigureStep
+    ensures { λ r. ⌜ r ≡ figureStep (now (s .entry)) at ⌝ }
+{
+    if s.len() < 8 {
+        return FigureStep {
+            number: 1,
+            value: 0,
+            at,
+        };
+    }
+    if s.len() - 8 < at {
+        return FigureStep {
+            number: 1,
+            value: 0,
+            at,
+        };
+    }
+    let value = figure_at(s, at);
+    FigureStep {
+        number: 0,
+        value,
+        at: at + 8,
+    }
+}

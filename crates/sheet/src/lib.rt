@@ -1,0 +1,69 @@
+// The calibration sheet (01, "The calibration sheet"): bytes to figures and back.
+ghost use mathlib.Core.Path.{_≡_};
+ghost use Rattle.sheet.specs.Step.{countStep, figureStep};
+
+mod bytes;
+mod judgement;
+mod reading;
+mod writing;
+
+use bytes::next_count;
+use bytes::next_figure;
+use figures::Calibration;
+pub use judgement::judge;
+pub use reading::read;
+pub use writing::write;
+
+// What a sheet says, and 0; or the number of its first fault, and zeros.
+#[repr(C)]
+pub struct Sheet {
+    pub number: u8,
+    pub figures: Calibration,
+}
+
+// 0 and the bytes written; or the number of the refusal, and 0.
+#[repr(C)]
+pub struct Written {
+    pub number: u8,
+    pub length: usize,
+}
+
+// A count read and the place after it, and 0; or 1, where the sheet ends before, and the place kept.
+#[repr(C)]
+pub struct CountStep {
+    pub number: u8,
+    pub value: u8,
+    pub at: usize,
+}
+
+// A figure read and the place after it, and 0; or 1, where the sheet ends before, and the place kept.
+#[repr(C)]
+pub struct FigureStep {
+    pub number: u8,
+    pub value: i64,
+    pub at: usize,
+}
+
+// The lent sheet itself, and how far it has been read.
+pub struct Cursor<'a> {
+    pub sheet: &'a [u8],
+    pub at: usize,
+}
+
+pub fn start<'a>(sheet: &'a [u8]) -> Cursor<'a>
+    ensures { λ r. ⌜ (r .sheet ≡ sheet .entry) × (r .at ≡ 0) ⌝ }
+{
+    Cursor { sheet, at: 0 }
+}
+
+pub fn count<'a>(c: Cursor<'a>) -> CountStep
+    ensures { λ r. ⌜ r ≡ countStep (now (c .entry .sheet)) (c .entry .at) ⌝ }
+{
+    next_count(c.sheet, c.at)
+}
+
+pub fn figure<'a>(c: Cursor<'a>) -> FigureStep
+    ensures { λ r. ⌜ r ≡ figureStep (now (c .entry .sheet)) (c .entry .at) ⌝ }
+{
+    next_figure(c.sheet, c.at)
+}
