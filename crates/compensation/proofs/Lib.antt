@@ -1,0 +1,10 @@
+pub mod Computable
+pub mod Spell
+pub mod Distance
+pub mod Held
+pub mod Magnitudes
+pub mod FilterHull
+pub mod FilterCases
+pub mod Flags
+pub mod Faithful
+pub mod Starred

@@ -1,0 +1,21 @@
+-- `hold_cell` meets its contract: its callee's, at the section's limits. Assumes nothing.
+use mathlib.Core.Path.{_≡_, _∙_}
+use mir.Syntax.{w64}
+use mir.Val.{toZ, ofZ}
+use mir.ValLaws.{toZ-ofZ}
+use borrow.Author.Needs.{needs}
+use Rattle.compensation.proofs.steps.hold_cell.Statement.{statement}
+use Rattle.compensation.proofs.steps.hold_cell.Tie as tie
+
+hold-within-requires : tie.Need-hold-within-requires
+hold-within-requires c κs = search needs
+
+returns : tie.Need-returns
+returns c =
+    let s = c .before .before .before in
+    let lo : toZ w64 (ofZ w64 (s .args .c .cmin)) ≡ s .args .c .cmin = search needs in
+    let hi : toZ w64 (ofZ w64 (s .args .c .cmax)) ≡ s .args .c .cmax = search needs in
+    toZ-ofZ w64 _ (record { sfits = c .hold-within .ok }) ∙ (simp (lo, hi, toZ-ofZ, s .fits .raw) at (c .hold-within .ensures))
+
+pub hold-cell-spec : {M : Type 1} → statement M
+hold-cell-spec = tie.close (tie.spec hold-within-requires returns)

@@ -1,0 +1,29 @@
+-- `adjustments` meets its contract: an acceptable table is computable. Assumes nothing.
+use mir.ValLaws.{toZ-ofZ}
+use Rattle.figures.specs.Acceptable.{temperatures}
+use Rattle.compensation.proofs.Computable.{cto-computable, ctg-computable}
+use borrow.Author.Needs.{needs}
+use Rattle.compensation.proofs.tables.adjustments.Statement.{statement}
+use Rattle.compensation.proofs.tables.adjustments.Tie as tie
+
+cast-count : tie.Need-cast-count
+cast-count c = search needs
+
+temperature-rows-requires : tie.Need-temperature-rows-requires
+temperature-rows-requires c κs = search needs
+
+interpolate-two-requires : tie.Need-interpolate-two-requires
+unfolding temperatures
+interpolate-two-requires c κs =
+    let s = c .before .before .before in
+    rw (c .temperature-rows .ensures) (cto-computable (s .args .table) (s .pre), ctg-computable (s .args .table) (s .pre))
+
+returns : tie.Need-returns
+unfolding temperatures
+returns c =
+    let s = c .before .before .before .before in
+    simp (toZ-ofZ, s .fits .temp) at (rw (c .before .temperature-rows .ensures) at (c .interpolate-two .ensures))
+
+pub adjustments-spec : {M : Type 1} → statement M
+adjustments-spec =
+    tie.close (tie.spec cast-count temperature-rows-requires interpolate-two-requires returns)

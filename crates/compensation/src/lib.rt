@@ -1,0 +1,10 @@
+// Steps 1 to 5 of a reading and its STAT bits (01, "The reading"), in whole numbers, on numbers and figures: a device only moves
+// their results.
+mod filter;
+mod stat;
+mod steps;
+mod tables;
+
+pub use filter::filter_input;
+pub use steps::Values;
+pub use steps::compensate;

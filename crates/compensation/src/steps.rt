@@ -1,0 +1,124 @@
+// Steps 2 to 5 (01, "The reading").
+ghost use mathlib.Core.Path.{_≡_};
+ghost use lib.IntN.{_+ℤ_, _-ℤ_, _*ℤ_};
+ghost use Rattle.integers.specs.Within.{_within_};
+ghost use Rattle.arithmetic.specs.Table.{interpolated};
+ghost use Rattle.figures.specs.Acceptable.{linearities};
+ghost use Rattle.compensation.specs.Hold.{hold};
+ghost use Rattle.compensation.specs.Reading.{one, scaled};
+ghost use Rattle.compensation.specs.Values.{valuesOf, ReadingInput, GainInput, AdjustInput, CorrectInput, SystemInput, NetInput};
+use crate::stat::stat_bits;
+use crate::tables::adjustments;
+use crate::tables::correction;
+use arithmetic::round_div;
+use figures::Calibration;
+use figures::Cell;
+use figures::Linearity;
+use figures::System;
+
+// What a reading leaves.
+#[repr(C)]
+pub struct Values {
+    pub craw: i64,
+    pub cell: i64,
+    pub sraw: i64,
+    pub sys: i64,
+    pub stat: u16,
+}
+
+// CRAW, CELL, SRAW, SYS and STAT, from the figures, ELEC as the filter holds it, TEMP and the integrity byte.
+pub fn compensate(c: Calibration, elec: i64, temp: i64, integrity: u8) -> Values
+    requires { ⌜ ReadingInput c elec ⌝ }
+    ensures { λ r. ⌜ r ≡ valuesOf c elec temp integrity ⌝ }
+{
+    let adjustment = adjustments(c.temperature, temp);
+    let y = gained(c.cell, adjustment.first, elec);
+    let raw_cell = adjusted(y, adjustment.second);
+    let craw = hold_cell(c.cell, raw_cell);
+    let cell = corrected(c.linearity, craw);
+    let raw_system = scaled_system(c.system, cell);
+    let sraw = hold_system(c.system, raw_system);
+    let sys = net(c.system, sraw);
+    let stat = stat_bits(c, elec, temp, raw_cell, raw_system, integrity);
+    Values {
+        craw,
+        cell,
+        sraw,
+        sys,
+        stat,
+    }
+}
+
+// round(x × gain ÷ 2^28): for y, raw cell and raw system.
+fn scale(x: i64, gain: i64) -> i64
+    requires { ⌜ (x *ℤ gain) within 9147936743096320000 ⌝ }
+    ensures { λ r. ⌜ r ≡ scaled x gain ⌝ }
+{
+    round_div(x * gain, Calibration::UNIT)
+}
+
+fn hold_within(lo: i64, hi: i64, x: i64) -> i64
+    ensures { λ r. ⌜ r ≡ hold lo hi x ⌝ }
+{
+    if x < lo {
+        return lo;
+    }
+    if hi < x {
+        return hi;
+    }
+    x
+}
+
+// y.
+fn gained(c: Cell, o: i64, elec: i64) -> i64
+    requires { ⌜ GainInput c o elec ⌝ }
+    ensures { λ r. ⌜ r ≡ scaled (elec -ℤ c .cofs -ℤ o) (c .cgai) ⌝ }
+{
+    scale(elec - c.cofs - o, c.cgai)
+}
+
+// The raw cell value.
+fn adjusted(y: i64, g: i64) -> i64
+    requires { ⌜ AdjustInput y g ⌝ }
+    ensures { λ r. ⌜ r ≡ scaled y (one +ℤ g) ⌝ }
+{
+    scale(y, Calibration::UNIT + g)
+}
+
+// CRAW.
+fn hold_cell(c: Cell, raw: i64) -> i64
+    ensures { λ r. ⌜ r ≡ hold (c .cmin) (c .cmax) raw ⌝ }
+{
+    hold_within(c.cmin, c.cmax, raw)
+}
+
+// CELL.
+fn corrected(table: Linearity, craw: i64) -> i64
+    requires { ⌜ CorrectInput table craw ⌝ }
+    ensures { λ r. ⌜ r ≡ craw +ℤ interpolated 1 (linearities table) craw ⌝ }
+{
+    craw + correction(table, craw)
+}
+
+// The raw system value.
+fn scaled_system(s: System, cell: i64) -> i64
+    requires { ⌜ SystemInput s cell ⌝ }
+    ensures { λ r. ⌜ r ≡ scaled (cell -ℤ s .sofs) (s .sgai) ⌝ }
+{
+    scale(cell - s.sofs, s.sgai)
+}
+
+// SRAW.
+fn hold_system(s: System, raw: i64) -> i64
+    ensures { λ r. ⌜ r ≡ hold (s .smin) (s .smax) raw ⌝ }
+{
+    hold_within(s.smin, s.smax, raw)
+}
+
+// SYS.
+fn net(s: System, sraw: i64) -> i64
+    requires { ⌜ NetInput s sraw ⌝ }
+    ensures { λ r. ⌜ r ≡ sraw -ℤ s .sz ⌝ }
+{
+    sraw - s.sz
+}
