@@ -1,0 +1,10 @@
+pub mod Sum
+pub mod Split
+pub mod Pattern
+pub mod Signed
+pub mod Exponent
+pub mod Steps
+pub mod Range
+pub mod Whole
+pub mod Returned
+pub mod Starred

@@ -1,0 +1,29 @@
+-- `binary32::wire::bits_of_float` meets its contract: only a NaN differs from itself. Assumes nothing.
+use mathlib.Core.Path.{_≡_, sym, ap, _∙_}
+use mathlib.Core.Bool.{false, not}
+use borrow.Author.Needs.{needs}
+use lib.Dec.{T}
+use lib.Ieee.{Float, nan, inf, fin, binary32, ne, isNan, toBits}
+use lib.Ieee.Compare.{differs-from-itself, nan-differs}
+use Rattle.integers.proofs.Order.{is-true, is-false}
+use Rattle.binary32.proofs.wire.bits_of_float.Statement.{statement}
+use Rattle.binary32.proofs.wire.bits_of_float.Tie as tie
+
+no-nan : (x : Float) → ne x x ≡ false → T (not (isNan x))
+unfolding isNan
+no-nan nan h = is-false (sym nan-differs ∙ h)
+no-nan (inf s) h = tt
+no-nan (fin s m e) h = tt
+
+returns : tie.Need-returns
+unfolding toBits
+returns c = sym (ap (toBits binary32) (differs-from-itself (c .before .args .x) (is-true (c .if1 .taken))))
+
+float-to-bits-result : tie.Need-float-to-bits-result
+float-to-bits-result c = no-nan (c .before .args .x) (c .if1 .left)
+
+returns-2 : tie.Need-returns-2
+returns-2 c = search needs
+
+pub bits-of-float-spec : {M : Type 1} → statement M
+bits-of-float-spec = tie.close (tie.spec returns float-to-bits-result returns-2)
