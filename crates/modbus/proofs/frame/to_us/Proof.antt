@@ -1,0 +1,16 @@
+-- `modbus::frame::to_us` meets its contract. Assumes nothing.
+use borrow.Author.Tests.{eq-eqb, ne-eqb}
+use Rattle.modbus.specs.Frame.{toUs}
+use Rattle.modbus.proofs.frame.to_us.Statement.{statement}
+use Rattle.modbus.proofs.frame.to_us.Tie as tie
+
+returns : tie.Need-returns
+unfolding toUs
+returns c = simp (eq-eqb _ _ (c .if1 .taken))
+
+returns-2 : tie.Need-returns-2
+unfolding toUs
+returns-2 c = simp (ne-eqb _ _ (c .if1 .left))
+
+pub to-us-spec : {M : Type 1} → statement M
+to-us-spec = tie.close (tie.spec returns returns-2)

@@ -1,0 +1,4 @@
+pub mod Checksum
+pub mod Register
+pub mod Frame
+pub mod Reply

@@ -1,0 +1,152 @@
+// What a frame asks, judged by its bytes, the room for a reply and the station alone (01, "The bus").
+ghost use mathlib.Core.Path.{_≡_};
+ghost use Prim.Native.Nat.{_+_, _≤_, _<_};
+ghost use lib.ListN.{length};
+ghost use Rattle.modbus.specs.Frame.{wordAt, toUs, checked, forUs, accessAsked, readAsked, writeOf, writeAsked, judged};
+use crate::register::Access;
+
+// A good frame, or the number that it is turned down with. A write carries the float that it sends,
+// which its register takes.
+pub enum Frame {
+    Write(u16, f32),
+    Read(u16),
+    Act(u16),
+    Refused(u8),
+}
+
+// Two bytes, the high one first.
+fn word(bytes: &[u8], at: usize) -> u16
+    requires { ⌜ at + 1 < length (now bytes) ⌝ }
+    ensures { λ r. ⌜ r ≡ wordAt (now (bytes .entry)) at ⌝ }
+{
+    (bytes[at] as u16) * 256 + (bytes[at + 1] as u16)
+}
+
+// To this station, or to all and no read?
+fn to_us(receiver: u8, function: u8, station: u8) -> bool
+    ensures { λ r. ⌜ r ≡ toUs receiver function station ⌝ }
+{
+    if receiver == 0 {
+        return function != 3;
+    }
+    receiver == station
+}
+
+// Do the last two bytes hold the checksum of the others?
+fn checksum_right(frame: &[u8]) -> bool
+    requires { ⌜ 4 ≤ length (now frame) ⌝ }
+    ensures { λ r. ⌜ r ≡ checked (now (frame .entry)) ⌝ }
+{
+    let n = frame.len();
+    let sum = crate::checksum::checksum(frame, n - 2);
+    let low = frame[n - 2] as u16;
+    let high = frame[n - 1] as u16;
+    sum == high * 256 + low
+}
+
+fn for_us(frame: &[u8], station: u8) -> bool
+    ensures { λ r. ⌜ r ≡ forUs (now (frame .entry)) station ⌝ }
+{
+    let n = frame.len();
+    if n < 4 {
+        return false;
+    }
+    if 256 < n {
+        return false;
+    }
+    if to_us(frame[0], frame[1], station) {
+        return checksum_right(frame);
+    }
+    false
+}
+
+// What may be done with the register that the frame addresses.
+fn access_asked(frame: &[u8]) -> Access
+    requires { ⌜ 4 ≤ length (now frame) ⌝ }
+    ensures { λ r. ⌜ r ≡ accessAsked (now (frame .entry)) ⌝ }
+{
+    let address = word(frame, 2);
+    if address % 2 == 0 {
+        return crate::register::access_to(address / 2);
+    }
+    Access::Unlisted
+}
+
+// Function 3.
+fn read_asked(frame: &[u8]) -> Frame
+    ensures { λ r. ⌜ r ≡ readAsked (now (frame .entry)) ⌝ }
+{
+    if frame.len() != 8 {
+        return Frame::Refused(16);
+    }
+    if word(frame, 4) != 2 {
+        return Frame::Refused(16);
+    }
+    let register = word(frame, 2) / 2;
+    let access = access_asked(frame);
+    match access {
+        Access::Unlisted => Frame::Refused(15),
+        _ => Frame::Read(register),
+    }
+}
+
+// A write of x to a register.
+fn write_of(access: Access, register: u16, x: f32) -> Frame
+    ensures { λ r. ⌜ r ≡ writeOf access register x ⌝ }
+{
+    match access {
+        Access::Unlisted => Frame::Refused(15),
+        Access::ReadOnly => Frame::Refused(16),
+        Access::Flag => {
+            if binary32::received::flag_fits(x) {
+                return Frame::Write(register, x);
+            }
+            Frame::Refused(16)
+        }
+        Access::Zero => {
+            if binary32::received::zero_fits(x) {
+                return Frame::Write(register, x);
+            }
+            Frame::Refused(16)
+        }
+        Access::Action => Frame::Act(register),
+    }
+}
+
+// Function 16.
+fn write_asked(frame: &[u8]) -> Frame
+    ensures { λ r. ⌜ r ≡ writeAsked (now (frame .entry)) ⌝ }
+{
+    if frame.len() != 13 {
+        return Frame::Refused(16);
+    }
+    if word(frame, 4) != 2 {
+        return Frame::Refused(16);
+    }
+    if frame[6] != 4 {
+        return Frame::Refused(16);
+    }
+    let x = binary32::wire::float_of_bytes(frame[7], frame[8], frame[9], frame[10]);
+    write_of(access_asked(frame), word(frame, 2) / 2, x)
+}
+
+// What the frame asks of the device of a station, given the room for a reply: 12, 13, 14, 15 and 16
+// are judged here, in 01's order; 10 and 11 are left to the device.
+pub fn judge(frame: &[u8], room: usize, station: u8) -> Frame
+    ensures { λ r. ⌜ r ≡ judged (now (frame .entry)) room station ⌝ }
+{
+    if room < 9 {
+        return Frame::Refused(12);
+    }
+    if for_us(frame, station) {
+        let function = frame[1];
+        if function == 3 {
+            return read_asked(frame);
+        }
+        if function == 16 {
+            return write_asked(frame);
+        }
+        return Frame::Refused(14);
+    }
+    Frame::Refused(13)
+}
