@@ -8,3 +8,4 @@ pub mod Range
 pub mod Whole
 pub mod Returned
 pub mod Starred
+pub mod Put

@@ -1,10 +1,7 @@
 // A float as four bytes on the wire (01, "The bus").
 ghost use mathlib.Core.Path.{_≡_};
-ghost use mathlib.Core.List.{_++_};
-ghost use Prim.Native.Nat.{_+_, _≤_};
-ghost use lib.ListN.{length, take, drop};
 ghost use lib.Ieee.{binary32, toBits};
-ghost use Rattle.binary32.specs.Wire.{sent, received};
+ghost use Rattle.binary32.specs.Wire.{sent, received, putAt};
 
 // The bit pattern of any float. (A NaN, which no device sends, has none of its own: the quiet one.)
 fn bits_of_float(x: f32) -> u32
@@ -16,11 +13,17 @@ fn bits_of_float(x: f32) -> u32
     f32::to_bits(x)
 }
 
-// Writes the four bytes of x into a buffer, from the place `at` on.
+// Writes the four bytes of x into a buffer, from the place `at` on; where they do not fit, it
+// stays as it is. (`at + 4` is not computed first: it can be past the largest usize.)
 pub fn put_float(buffer: &mut [u8], at: usize, x: f32)
-    requires { ⌜ at + 4 ≤ length (now buffer) ⌝ }
-    ensures { λ _. ⌜ now (buffer .exit) ≡ take at (now (buffer .entry)) ++ sent x ++ drop (at + 4) (now (buffer .entry)) ⌝ }
+    ensures { λ _. ⌜ now (buffer .exit) ≡ putAt (now (buffer .entry)) at (sent x) ⌝ }
 {
+    if buffer.len() < 4 {
+        return;
+    }
+    if buffer.len() - 4 < at {
+        return;
+    }
     let bits = bits_of_float(x);
     buffer[at] = (bits / 256 % 256) as u8;
     buffer[at + 1] = (bits % 256) as u8;

@@ -9,7 +9,8 @@ use denote.Ref.{now}
 use lib.ListN.{length, set, take, drop, length-set}
 use lib.Seq.{sets-eq, drop-drop}
 use lib.Ieee.{Float}
-use Rattle.binary32.specs.Wire.{wireBytes, sent}
+use Rattle.binary32.specs.Wire.{wireBytes, sent, putAt}
+use Rattle.binary32.proofs.Put.{put-fit}
 use Rattle.modbus.specs.Frame.{stationOf}
 use Rattle.modbus.specs.Reply.{silent}
 use Rattle.modbus.proofs.Replies.{enough, framed-enough, closed, replied, unreplied}
@@ -17,10 +18,11 @@ use Rattle.modbus.proofs.reply.value.Statement.{statement}
 use Rattle.modbus.proofs.reply.value.Tie as tie
 
 -- the buffer before it is closed
-front : (b last : List ℕ) (k : ℕ) (x : Float) → 9 ≤ length b → last ≡ take 3 (set (set (set b 0 k) 1 3) 2 4) ++ sent x ++ drop 7 (set (set (set b 0 k) 1 3) 2 4) → last ≡ (k ∷ 3 ∷ 4 ∷ sent x) ++ drop 7 b
+front : (b last : List ℕ) (k : ℕ) (x : Float) → 9 ≤ length b → last ≡ putAt (set (set (set b 0 k) 1 3) 2 4) 3 (sent x) → last ≡ (k ∷ 3 ∷ 4 ∷ sent x) ++ drop 7 b
 unfolding wireBytes
 front b last k x h e =
     e
+    ∙ put-fit (set (set (set b 0 k) 1 3) 2 4) 3 (sent x) (simp length-set (omega arith))
     ∙ ap (λ (B : List ℕ). take 3 B ++ sent x ++ drop 7 B) (sets-eq (k ∷ 3 ∷ 4 ∷ []) b 0 (omega arith))
     ∙ ap (λ (r : List ℕ). (k ∷ 3 ∷ 4 ∷ sent x) ++ r) (drop-drop 4 3 b)
 
@@ -46,7 +48,7 @@ slice-write-reply-3 : tie.Need-slice-write-reply-3
 slice-write-reply-3 c = simp length-set (omega (arith, enough _ _ (speaks (c .before))))
 
 put-float-requires : tie.Need-put-float-requires
-put-float-requires c κs = simp length-set (omega (arith, enough _ _ (speaks (c .before .before))))
+put-float-requires c κs = search needs
 
 close-requires : tie.Need-close-requires
 close-requires c κs = omega (arith, simp length-set at (c .before .before .reply .given), enough _ _ (speaks (c .before .before .before .before .before .before)))
