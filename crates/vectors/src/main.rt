@@ -1,5 +1,5 @@
-// Computed against expected values, for what is not proved as a theorem: the messages of 001, the
-// published checksums, floats both ways, and a frame and a reply of each kind (01, "Conditions of
+// Computed against expected values, for what is not proved as a theorem: the messages of 001,
+// known checksums, floats both ways, and a frame and a reply of each kind (01, "Conditions of
 // acceptance"). Each line printed is how many cases of a group came out right, of how many.
 mod checksums;
 mod floats;
