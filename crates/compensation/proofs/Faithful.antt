@@ -19,6 +19,7 @@ use Rattle.figures.specs.Acceptable.{Acceptable, temperatures, linearities}
 use Rattle.figures.specs.declared.Calibration.{Calibration}
 use Rattle.compensation.specs.Filter.{elecMost}
 use Rattle.compensation.specs.Reading.{one, scaled, o, g, y, rawCell, craw, cell, rawSystem, sraw, sys}
+use Rattle.compensation.specs.Values.{valuesOf}
 use Rattle.compensation.specs.Exact.{oF, gF, yF, rawCellF, crawF, cellF, rawSystemF, srawF, sysF}
 use Rattle.compensation.specs.Faithful.{Within, AlwaysFaithful}
 use Rattle.compensation.proofs.Distance.{near-gain, near-adjust, near-correct}
@@ -81,6 +82,7 @@ both : {A B C : Type 0} → A ↔ B → B ↔ C → A ↔ C
 both f g = ((λ a. g .0 (f .0 a)), (λ c. f .1 (g .1 c)))
 
 pub faithful : AlwaysFaithful
+unfolding valuesOf
 faithful c elec temp integrity ok held =
     let s = stat-bits c elec temp integrity in
     let raw-cell = in-steps {k = 42} 1315 (raw-cell-near c elec temp ok held) (omega arith) in

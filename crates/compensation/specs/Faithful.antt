@@ -10,9 +10,10 @@ use Rattle.arithmetic.specs.Fraction.{Fraction}
 use Rattle.figures.specs.Acceptable.{Acceptable}
 use Rattle.figures.specs.declared.Calibration.{Calibration}
 use Rattle.compensation.specs.Filter.{elecMost}
-use Rattle.compensation.specs.Reading.{craw, cell, sraw, sys}
 use Rattle.compensation.specs.Exact.{rawCellF, crawF, cellF, rawSystemF, srawF, sysF}
-use Rattle.compensation.specs.Stat.{Raised, stat, tempur, tempor, ecomur, ecomor, crawur, crawor, sysur, sysor, lcinteg}
+use Rattle.compensation.specs.Stat.{Raised, tempur, tempor, ecomur, ecomor, crawur, crawor, sysur, sysor, lcinteg}
+use Rattle.compensation.specs.Values.{valuesOf}
+use Rattle.compensation.specs.declared.steps.Values.{Values}
 
 -- q is a fraction, and x lies within k steps of it: |x − q| ≤ k, multiplied out
 pub record Within (k : ℕ) (x : ℤ) (q : Fraction) : Type 0 where
@@ -30,23 +31,24 @@ Above q x = (x *ℤ q .low) <ℤ q .top
 abbrev pub Below : Fraction → ℤ → Type 0
 Below q x = q .top <ℤ (x *ℤ q .low)
 
-pub record Faithful (c : Calibration) (elec temp : ℤ) (integrity : ℕ) : Type 0 where
-  pub craw-near : Within 42 (craw c elec temp) (crawF c elec temp)
-  pub cell-near : Within 52 (cell c elec temp) (cellF c elec temp)
-  pub sraw-near : Within 416 (sraw c elec temp) (srawF c elec temp)
-  pub sys-near : Within 416 (sys c elec temp) (sysF c elec temp)
+-- the values v beside those of exact compensation: by the figures c, from ELEC as the filter holds it, TEMP and the integrity byte
+pub record Faithful (c : Calibration) (elec temp : ℤ) (integrity : ℕ) (v : Values) : Type 0 where
+  pub craw-near : Within 42 (v .craw) (crawF c elec temp)
+  pub cell-near : Within 52 (v .cell) (cellF c elec temp)
+  pub sraw-near : Within 416 (v .sraw) (srawF c elec temp)
+  pub sys-near : Within 416 (v .sys) (sysF c elec temp)
   -- the range flags, wherever the exact raw value is farther than that from the limit
-  pub crawur-right : Farther 42 (c .cell .cmin) (rawCellF c elec temp) → Raised crawur (stat c elec temp integrity) ↔ Below (rawCellF c elec temp) (c .cell .cmin)
-  pub crawor-right : Farther 42 (c .cell .cmax) (rawCellF c elec temp) → Raised crawor (stat c elec temp integrity) ↔ Above (rawCellF c elec temp) (c .cell .cmax)
-  pub sysur-right : Farther 416 (c .system .smin) (rawSystemF c elec temp) → Raised sysur (stat c elec temp integrity) ↔ Below (rawSystemF c elec temp) (c .system .smin)
-  pub sysor-right : Farther 416 (c .system .smax) (rawSystemF c elec temp) → Raised sysor (stat c elec temp integrity) ↔ Above (rawSystemF c elec temp) (c .system .smax)
+  pub crawur-right : Farther 42 (c .cell .cmin) (rawCellF c elec temp) → Raised crawur (v .stat) ↔ Below (rawCellF c elec temp) (c .cell .cmin)
+  pub crawor-right : Farther 42 (c .cell .cmax) (rawCellF c elec temp) → Raised crawor (v .stat) ↔ Above (rawCellF c elec temp) (c .cell .cmax)
+  pub sysur-right : Farther 416 (c .system .smin) (rawSystemF c elec temp) → Raised sysur (v .stat) ↔ Below (rawSystemF c elec temp) (c .system .smin)
+  pub sysor-right : Farther 416 (c .system .smax) (rawSystemF c elec temp) → Raised sysor (v .stat) ↔ Above (rawSystemF c elec temp) (c .system .smax)
   -- the others, always
-  pub tempur-right : Raised tempur (stat c elec temp integrity) ↔ temp <ℤ negℤ (pos 3276800)
-  pub tempor-right : Raised tempor (stat c elec temp integrity) ↔ pos 5898240 <ℤ temp
-  pub ecomur-right : Raised ecomur (stat c elec temp integrity) ↔ elec <ℤ negℤ (pos 7864320)
-  pub ecomor-right : Raised ecomor (stat c elec temp integrity) ↔ pos 7864320 <ℤ elec
-  pub lcinteg-right : Raised lcinteg (stat c elec temp integrity) ↔ (integrity ≡ 1)
+  pub tempur-right : Raised tempur (v .stat) ↔ temp <ℤ negℤ (pos 3276800)
+  pub tempor-right : Raised tempor (v .stat) ↔ pos 5898240 <ℤ temp
+  pub ecomur-right : Raised ecomur (v .stat) ↔ elec <ℤ negℤ (pos 7864320)
+  pub ecomor-right : Raised ecomor (v .stat) ↔ pos 7864320 <ℤ elec
+  pub lcinteg-right : Raised lcinteg (v .stat) ↔ (integrity ≡ 1)
 
 -- for all acceptable figures, every ELEC that the filter can hold, and every TEMP
 abbrev pub AlwaysFaithful : Type 0
-AlwaysFaithful = (c : Calibration) (elec temp : ℤ) (integrity : ℕ) → Acceptable c → elec within elecMost → Faithful c elec temp integrity
+AlwaysFaithful = (c : Calibration) (elec temp : ℤ) (integrity : ℕ) → Acceptable c → elec within elecMost → Faithful c elec temp integrity (valuesOf c elec temp integrity)
