@@ -6,6 +6,6 @@ pub mod Exponent
 pub mod Steps
 pub mod Range
 pub mod Whole
+pub mod Bounded
 pub mod Returned
-pub mod Starred
 pub mod Put
