@@ -11,6 +11,7 @@ use bytes::next_count;
 use bytes::next_figure;
 use figures::Calibration;
 pub use judgement::judge;
+pub use reading::no_figures;
 pub use reading::read;
 pub use writing::write;
 

@@ -192,7 +192,7 @@ fn sheet_number(s: &[u8], figures: Calibration) -> u8
     0
 }
 
-fn no_figures() -> Calibration
+pub fn no_figures() -> Calibration
     ensures { λ r. ⌜ r ≡ noFigures ⌝ }
 {
     let t = TemperaturePoint {
