@@ -1,0 +1,33 @@
+-- `state::joining::join` meets its contract: each field is its argument, or what a call gives. Assumes nothing.
+use mathlib.Core.Path.{_≡_}
+use mathlib.Core.Bool.{true}
+use lib.IntN.{ℤ}
+use mir.Syntax.{w64}
+use mir.ValLaws.{toZ-ofZ}
+use borrow.Author.Needs.{needs}
+use Rattle.integers.proofs.Machine.{held}
+use Rattle.compensation.specs.declared.steps.Values.{Values}
+use Rattle.state.specs.declared.Readings.{Readings}
+use Rattle.state.specs.Reading.{peakAfter, trofAfter, joined}
+use Rattle.state.proofs.joining.join.Statement.{statement}
+use Rattle.state.proofs.joining.join.Tie as tie
+
+built : (r : Readings) (elec temp : ℤ) (v : Values) {e t p q : ℤ} → e ≡ elec → t ≡ temp → p ≡ peakAfter r v → q ≡ trofAfter r v
+    → record { any = true; elec = e; temp = t; values = v; peak = p; trof = q } ≡ joined r elec temp v
+unfolding joined
+built r elec temp v e t p q = rw (e, t, p, q)
+
+peak-after-requires : tie.Need-peak-after-requires
+peak-after-requires c κs = search needs
+
+trof-after-requires : tie.Need-trof-after-requires
+trof-after-requires c κs = search needs
+
+returns : tie.Need-returns
+returns c =
+    let s = c .before .before in
+    built (s .args .r) (s .args .elec) (s .args .temp) (s .args .v) (toZ-ofZ w64 _ (s .fits .elec)) (toZ-ofZ w64 _ (s .fits .temp))
+    (held (c .before .peak-after .ok) (c .before .peak-after .ensures)) (held (c .trof-after .ok) (c .trof-after .ensures))
+
+pub join-spec : {M : Type 1} → statement M
+join-spec = tie.close (tie.spec peak-after-requires trof-after-requires returns)

@@ -1,0 +1,19 @@
+-- `state::registers::reading_at` meets its contract, by whether there is a reading. Assumes nothing.
+use borrow.Author.Needs.{needs}
+use Rattle.state.specs.Register.{readingAt}
+use Rattle.state.proofs.registers.reading_at.Statement.{statement}
+use Rattle.state.proofs.registers.reading_at.Tie as tie
+
+reading-float-requires : tie.Need-reading-float-requires
+reading-float-requires c κs = search needs
+
+returns : tie.Need-returns
+unfolding readingAt
+returns c = rw (c .reading-float .ensures, c .before .if1 .taken)
+
+returns-2 : tie.Need-returns-2
+unfolding readingAt
+returns-2 c = rw (c .if1 .left)
+
+pub reading-at-spec : {M : Type 1} → statement M
+reading-at-spec = tie.close (tie.spec reading-float-requires returns returns-2)

@@ -1,0 +1,20 @@
+-- `state::reporting::report_of` meets its contract, by whether there is a reading. Assumes nothing.
+use lib.Ieee.{ofInt, ofBits}
+use borrow.Author.Needs.{needs}
+use Rattle.state.specs.Report.{reported}
+use Rattle.state.proofs.reporting.report_of.Statement.{statement}
+use Rattle.state.proofs.reporting.report_of.Tie as tie
+
+floats-of-requires : tie.Need-floats-of-requires
+floats-of-requires c κs = search needs
+
+returns : tie.Need-returns
+unfolding reported
+returns c = rw (c .before .if1 .taken, c .floats-of .ensures)
+
+returns-2 : tie.Need-returns-2
+unfolding reported ofInt ofBits
+returns-2 c = rw (c .if1 .left)
+
+pub report-of-spec : {M : Type 1} → statement M
+report-of-spec = tie.close (tie.spec floats-of-requires returns returns-2)

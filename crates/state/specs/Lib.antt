@@ -1,0 +1,4 @@
+pub mod Reading
+pub mod Request
+pub mod Register
+pub mod Report

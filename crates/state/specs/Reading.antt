@@ -1,0 +1,63 @@
+-- A reading (01, "The reading"): when it is turned down, and what it makes of a device's state.
+use mathlib.Core.Bool.{Bool, true, cond, not, _||_}
+use Prim.Native.Nat.{ℕ}
+use lib.Bits.{bitOr}
+use lib.Dec.{ltb}
+use lib.IntN.{ℤ, pos, negℤ}
+use lib.Signed.{ltZ}
+use Rattle.integers.specs.Within.{_within_}
+use Rattle.figures.specs.Acceptable.{Acceptable}
+use Rattle.figures.specs.declared.Calibration.{Calibration}
+use Rattle.compensation.specs.Filter.{elecMost, filtered}
+use Rattle.compensation.specs.Values.{valuesOf}
+use Rattle.compensation.specs.declared.steps.Values.{Values}
+use Rattle.state.specs.declared.Readings.{Readings}
+use Rattle.state.specs.declared.State.{State}
+
+-- 9: "ELEC beyond ±19,660,800, TEMP beyond ±13,107,200, or integrity byte above 1"
+
+abbrev pub tempMost : ℕ
+tempMost = 13107200
+
+unfoldable pub outside : ℤ → ℤ → ℤ → Bool
+outside least most v = ltZ v least || ltZ most v
+
+abbrev pub beyond : ℕ → ℤ → Bool
+beyond most v = outside (negℤ (pos most)) (pos most) v
+
+unfoldable pub badReading : ℤ → ℤ → ℕ → Bool
+badReading elec temp integrity = beyond elecMost elec || (beyond tempMost temp || ltb 1 integrity)
+
+-- 6. "PEAK and TROF are the largest and smallest SYS since the first reading after a start or RST, or since a peak reset"
+
+unfoldable pub larger : ℤ → ℤ → ℤ
+larger a b = cond (ltZ a b) b a
+
+unfoldable pub smaller : ℤ → ℤ → ℤ
+smaller a b = cond (ltZ b a) b a
+
+unfoldable pub peakAfter : Readings → Values → ℤ
+peakAfter r v = cond (r .any) (larger (r .peak) (v .sys)) (v .sys)
+
+unfoldable pub trofAfter : Readings → Values → ℤ
+trofAfter r v = cond (r .any) (smaller (r .trof) (v .sys)) (v .sys)
+
+unfoldable pub joined : Readings → ℤ → ℤ → Values → Readings
+joined r elec temp v = record { any = true; elec = elec; temp = temp; values = v; peak = peakAfter r v; trof = trofAfter r v }
+
+-- 1. the held value; without a reading this is the first
+abbrev pub heldAfter : Calibration → Readings → ℤ → ℤ
+heldAfter c r elec = filtered (c .filter) (not (r .any)) (r .elec) elec
+
+-- 1 to 6, by the figures c in force; "A reading raises its STAT bits in FLAG"
+unfoldable pub taken : Calibration → State → ℤ → ℤ → ℕ → State
+taken c s elec temp integrity =
+    let held : ℤ = heldAfter c (s .readings) elec in
+    let v : Values = valuesOf c held temp integrity in
+    record { readings = joined (s .readings) held temp v; flag = bitOr (s .flag) (v .stat); snapshot = s .snapshot }
+
+-- what the arithmetic of a reading needs: acceptable figures, and inputs that 9 does not turn down
+pub record TakeInput (c : Calibration) (s : State) (elec : ℤ) : Type 0 where
+  pub acceptable : Acceptable c
+  pub held-in : (s .readings .elec) within elecMost
+  pub elec-in : elec within elecMost

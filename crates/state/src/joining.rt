@@ -1,0 +1,95 @@
+// A reading joins (01, "The reading"): its filtered input and values, PEAK and TROF, and its STAT bits in FLAG.
+ghost use mathlib.Core.Path.{_≡_};
+ghost use Rattle.state.specs.Reading.{outside, badReading, larger, smaller, peakAfter, trofAfter, joined, taken, TakeInput};
+use crate::Readings;
+use crate::State;
+use compensation::Values;
+use figures::Calibration;
+
+fn is_outside(least: i64, most: i64, v: i64) -> bool
+    ensures { λ r. ⌜ r ≡ outside least most v ⌝ }
+{
+    if v < least {
+        return true;
+    }
+    most < v
+}
+
+// Number 9.
+pub fn bad_reading(elec: i64, temp: i64, integrity: u8) -> bool
+    ensures { λ r. ⌜ r ≡ badReading elec temp integrity ⌝ }
+{
+    if is_outside(-19_660_800, 19_660_800, elec) {
+        return true;
+    }
+    if is_outside(-13_107_200, 13_107_200, temp) {
+        return true;
+    }
+    1 < integrity
+}
+
+fn larger_of(a: i64, b: i64) -> i64
+    ensures { λ r. ⌜ r ≡ larger a b ⌝ }
+{
+    if a < b {
+        return b;
+    }
+    a
+}
+
+fn smaller_of(a: i64, b: i64) -> i64
+    ensures { λ r. ⌜ r ≡ smaller a b ⌝ }
+{
+    if b < a {
+        return b;
+    }
+    a
+}
+
+fn peak_after(r: Readings, v: Values) -> i64
+    ensures { λ p. ⌜ p ≡ peakAfter r v ⌝ }
+{
+    if r.any {
+        return larger_of(r.peak, v.sys);
+    }
+    v.sys
+}
+
+fn trof_after(r: Readings, v: Values) -> i64
+    ensures { λ p. ⌜ p ≡ trofAfter r v ⌝ }
+{
+    if r.any {
+        return smaller_of(r.trof, v.sys);
+    }
+    v.sys
+}
+
+fn join(r: Readings, elec: i64, temp: i64, v: Values) -> Readings
+    ensures { λ n. ⌜ n ≡ joined r elec temp v ⌝ }
+{
+    let peak = peak_after(r, v);
+    let trof = trof_after(r, v);
+    Readings {
+        any: true,
+        elec,
+        temp,
+        values: v,
+        peak,
+        trof,
+    }
+}
+
+// A reading that is not a bad one, taken in by the figures in force.
+pub fn take(figures: Calibration, state: State, elec: i64, temp: i64, integrity: u8) -> State
+    requires { ⌜ TakeInput figures state elec ⌝ }
+    ensures { λ n. ⌜ n ≡ taken figures state elec temp integrity ⌝ }
+{
+    let before = state.readings;
+    let held = compensation::filter_input(figures.filter, !before.any, before.elec, elec);
+    let values = compensation::compensate(figures, held, temp, integrity);
+    let readings = join(before, held, temp, values);
+    let mut next = state;
+    next.readings = readings;
+    next.flag = state.flag | values.stat;
+    next
+}
