@@ -1,0 +1,228 @@
+-- What follows for single calls: refused calls, silence and exceptions, and what each accepted request does, as the next read shows
+-- it. Assumes nothing.
+use mathlib.Core.Path.{_≡_, refl, sym, ap, _∙_, subst}
+use mathlib.Core.Bool.{Bool, true, false, cond, _||_, _&&_}
+use mathlib.Core.List.{List, [], _∷_, _++_}
+use Prim.Native.Nat.{ℕ}
+use native.Mathlib.Omega.{arith}
+use lib.Bits.{bitAnd, bitOr}
+use lib.Dec.{eqb, leb, ltb, leb→le}
+use lib.Ieee.{Float}
+use lib.IntN.{ℤ}
+use lib.ListN.{length, take, drop}
+use borrow.Author.Tests.{eq-eqb, ne-eqb, le-ltb}
+use Rattle.integers.proofs.Machine.{and-left}
+use Rattle.integers.proofs.Order.{is-true}
+use Rattle.binary32.specs.Received.{zeroSteps, flagWhole}
+use Rattle.binary32.specs.Sent.{stepFloat, wholeFloat}
+use Rattle.modbus.specs.Checksum.{framed}
+use Rattle.modbus.specs.Frame.{stationOf, functionOf, forUs, toUs, checked, judged}
+use Rattle.modbus.specs.Reply.{silent, answer, valueReply, writeReply, exceptionCode, exceptionReply}
+use Rattle.modbus.proofs.Replies.{length-framed}
+use Rattle.modbus.specs.declared.frame.Frame.{Frame}
+use Rattle.modbus.specs.declared.frame.Frame.the-variants.{Write, Read, Act}
+use Rattle.state.specs.Reading.{badReading, taken}
+use Rattle.state.specs.Request.{requested, setupBy, stateBy, snapped, peaksAt, peaksReset}
+use Rattle.state.specs.Register.{registerAt, onReading, answered, numberOf}
+use Rattle.state.specs.declared.State.{State}
+use Rattle.state.specs.declared.requests.Request.{Request}
+use Rattle.state.specs.declared.requests.Request.the-variants.{Refuse, Show, Flag, Zero, Rst, Snap, PeakReset}
+use Rattle.state.specs.declared.registers.Answer.{Answer}
+use Rattle.state.specs.declared.registers.Answer.the-variants.{Value, Done, Refused}
+use Rattle.converter.specs.Making.{started}
+use Rattle.converter.specs.Call.{Call, reading, frame, report, asked, obeyed, read, step, answerTo, number, replyWith, reply}
+use Rattle.converter.specs.Reached.{Serving}
+use Rattle.converter.specs.History.{Shows}
+use Rattle.converter.specs.declared.Device.{Device}
+use Rattle.converter.specs.declared.Served.{Served}
+
+-- ---- "No refusal changes a device"
+
+unless-any : (d : Device) (any : Bool) (t : State) → (numberOf (cond any Done (Refused 10)) ≡ 0 → ⊥) → record { setup = d .setup; state = cond any t (d .state) } ≡ d
+unless-any d true t h = absurd (h refl)
+unless-any d false t h = refl
+
+obeyed-unchanged : (d : Device) (sz : ℤ) (q : Request) → (numberOf (answered (d .state) sz q) ≡ 0 → ⊥) → obeyed d q ≡ d
+unfolding setupBy stateBy answered onReading snapped peaksReset
+obeyed-unchanged d sz (Refuse n) h = refl
+obeyed-unchanged d sz (Show n) h = refl
+obeyed-unchanged d sz (Flag m) h = absurd (h refl)
+obeyed-unchanged d sz (Zero z) h = absurd (h refl)
+obeyed-unchanged d sz Rst h = absurd (h refl)
+obeyed-unchanged d sz Snap h =
+    let s = d .state in
+    unless-any d (s .readings .any) (record { readings = s .readings; flag = s .flag; snapshot = record { taken = true; sysn = s .readings .values .sys } }) h
+obeyed-unchanged d sz PeakReset h =
+    let s = d .state in
+    unless-any d (s .readings .any) (record { readings = peaksAt (s .readings); flag = s .flag; snapshot = s .snapshot }) h
+
+pub refused-unchanged : (d : Device) (c : Call) → (number d c ≡ 0 → ⊥) → step d c ≡ d
+unfolding answerTo
+refused-unchanged d (reading elec temp integrity) h = go (badReading elec temp integrity) h
+  where
+    go : (b : Bool) → (_≡_ {A = ℕ} (cond b 9 0) 0 → ⊥) → cond b d (read d elec temp integrity) ≡ d
+    go true k = refl
+    go false k = absurd (k refl)
+refused-unchanged d (frame bytes room) h = obeyed-unchanged d (d .setup .figures .system .sz) (asked (d .setup) bytes room) h
+refused-unchanged d report h = refl
+
+-- ---- silence: 12 and 13, and every broadcast, leave all bytes of the buffer
+
+of-number : (a : Answer) (n : ℕ) → numberOf a ≡ n → (n ≡ 0 → ⊥) → a ≡ Refused n
+of-number (Value x) n e h = absurd (h (sym e))
+of-number Done n e h = absurd (h (sym e))
+of-number (Refused m) n e h = ap Refused e
+
+module _ (d : Device) (s : List ℕ) (room : ℕ) where
+  pub refused-reply : (n : ℕ) → number d (frame s room) ≡ n → (n ≡ 0 → ⊥) → reply d s room ≡ exceptionReply s room n
+  refused-reply n e h = ap (replyWith s room) (of-number (answerTo d s room) n e h)
+
+  pub silent-12 : number d (frame s room) ≡ 12 → reply d s room ≡ []
+  unfolding exceptionReply exceptionCode
+  silent-12 e = refused-reply 12 e (λ h. omega (arith, h))
+
+  pub silent-13 : number d (frame s room) ≡ 13 → reply d s room ≡ []
+  unfolding exceptionReply exceptionCode
+  silent-13 e = refused-reply 13 e (λ h. omega (arith, h))
+
+  silent-to-all : stationOf s ≡ 0 → silent s room ≡ true
+  unfolding silent
+  silent-to-all e = rw (eq-eqb (stationOf s) 0 e) (or-true (ltb room 9) (ltb (length s) 4))
+    where
+      or-true : (a b : Bool) → a || b || true ≡ true
+      or-true true b = refl
+      or-true false true = refl
+      or-true false false = refl
+
+  unanswered : stationOf s ≡ 0 → (bytes : List ℕ) → answer s room bytes ≡ []
+  unfolding answer
+  unanswered e bytes = ap (λ (b : Bool). cond b [] (framed bytes)) (silent-to-all e)
+
+  pub silent-broadcast : stationOf s ≡ 0 → reply d s room ≡ []
+  unfolding writeReply exceptionReply
+  silent-broadcast e = go (answerTo d s room)
+    where
+      either : (b : Bool) (x : List ℕ) → x ≡ [] → (cond b x [] ≡ []) × (cond b [] x ≡ [])
+      either true x h = (h, refl)
+      either false x h = (refl, h)
+
+      go : (a : Answer) → replyWith s room a ≡ []
+      go (Value x) = unanswered e _
+      go Done = either (eqb (length s) 13) (answer s room (take 6 s)) (unanswered e _) .0
+      go (Refused n) = either (eqb (exceptionCode n (functionOf s)) 0) (answer s room (stationOf s ∷ bitOr (functionOf s) 128 ∷ exceptionCode n (functionOf s) ∷ [])) (unanswered e _) .1
+
+-- what silence means for the lent buffer and the length
+pub silence : {d : Device} {s before after : List ℕ} {r : Served} → Serving d s before after r → reply d s (length before) ≡ [] → (after ≡ before) × (r .length ≡ 0)
+silence {d} {s} {before} h e = (h .replied .buffer ∙ ap (λ (l : List ℕ). l ++ drop (length l) before) e, h .replied .count ∙ ap length e)
+
+-- ---- an exception: five bytes and no other
+
+abbrev pub exceptionBytes : List ℕ → ℕ → List ℕ
+exceptionBytes s n = stationOf s ∷ bitOr (functionOf s) 128 ∷ exceptionCode n (functionOf s) ∷ []
+
+module _ (d : Device) (s : List ℕ) (room : ℕ) where
+  no-room : ltb room 9 ≡ true → number d (frame s room) ≡ 12
+  unfolding answerTo answered requested judged
+  no-room e = rw e
+
+  not-for-us : ltb room 9 ≡ false → forUs s (d .setup .station) ≡ false → number d (frame s room) ≡ 13
+  unfolding answerTo answered requested judged
+  not-for-us e f = rw (e, f)
+
+  module _ (code : exceptionCode (number d (frame s room)) (functionOf s) ≡ 0 → ⊥) (ours : stationOf s ≡ 0 → ⊥) where
+    codeless : (n : ℕ) → exceptionCode n (functionOf s) ≡ 0 → number d (frame s room) ≡ n → ⊥
+    codeless n z e = code (ap (λ (m : ℕ). exceptionCode m (functionOf s)) e ∙ z)
+
+    numbered : number d (frame s room) ≡ 0 → ⊥
+    unfolding exceptionCode
+    numbered = codeless 0 refl
+
+    roomy : (b : Bool) → ltb room 9 ≡ b → b ≡ false
+    unfolding exceptionCode
+    roomy true e = absurd (codeless 12 refl (no-room e))
+    roomy false e = refl
+
+    addressed : (b : Bool) → forUs s (d .setup .station) ≡ b → b ≡ true
+    unfolding exceptionCode
+    addressed true e = refl
+    addressed false e = absurd (codeless 13 refl (not-for-us (roomy (ltb room 9) refl) e))
+
+    framed-long : ltb (length s) 4 ≡ false
+    unfolding forUs
+    framed-long =
+        let sized = leb 4 (length s) && leb (length s) 256 in
+        let to-us = toUs (stationOf s) (functionOf s) (d .setup .station) in
+        le-ltb _ _ (leb→le 4 (length s) (and-left (leb 4 (length s)) (leb (length s) 256) (and-left sized to-us (and-left (sized && to-us) (checked s) (is-true (addressed (forUs s (d .setup .station)) refl))))))
+
+    answered-aloud : silent s room ≡ false
+    unfolding silent
+    answered-aloud = rw (roomy (ltb room 9) refl, framed-long, ne-eqb (stationOf s) 0 ours)
+
+    pub exception-reply : reply d s room ≡ framed (exceptionBytes s (number d (frame s room)))
+    unfolding exceptionReply answer
+    exception-reply =
+        refused-reply d s room (number d (frame s room)) refl numbered
+        ∙ ap (λ (b : Bool). cond b [] (answer s room (exceptionBytes s (number d (frame s room))))) (ne-eqb _ 0 code)
+        ∙ ap (λ (b : Bool). cond b [] (framed (exceptionBytes s (number d (frame s room))))) answered-aloud
+
+-- the buffer and the length, by the entry's own answer
+pub exception : {d : Device} {s before after : List ℕ} {r : Served} → Serving d s before after r → (exceptionCode (r .number) (functionOf s) ≡ 0 → ⊥) → (stationOf s ≡ 0 → ⊥)
+    → (r .length ≡ 5) × (after ≡ framed (exceptionBytes s (r .number)) ++ drop 5 before)
+exception {d} {s} {before} {after} {r} h code ours =
+    let same : number d (frame s (length before)) ≡ r .number = sym (h .number-is) in
+    let made : reply d s (length before) ≡ framed (exceptionBytes s (r .number)) =
+    exception-reply d s (length before) (λ z. code (ap (λ (n : ℕ). exceptionCode n (functionOf s)) (sym same) ∙ z)) ours ∙ ap (λ (n : ℕ). framed (exceptionBytes s n)) same in (
+      h .replied .count ∙ ap length made ∙ length-framed (exceptionBytes s (r .number)),
+      h .replied .buffer ∙ ap (λ (l : List ℕ). l ++ drop (length l) before) made ∙ ap (λ (n : ℕ). framed (exceptionBytes s (r .number)) ++ drop n before) (length-framed (exceptionBytes s (r .number))),
+    )
+
+-- ---- what each accepted request does
+
+-- a frame that reads register n is accepted where the register shows x, and x is sent
+pub read-replies : (d : Device) (s : List ℕ) (room n : ℕ) (x : Float) → judged s room (d .setup .station) ≡ Read n → Shows d n x
+    → (number d (frame s room) ≡ 0) × (reply d s room ≡ valueReply s room x)
+unfolding answerTo answered requested
+read-replies d s room n x e shows = (ap numberOf same, ap (replyWith s room) same)
+  where
+    same : answerTo d s room ≡ Value x
+    same = ap (λ (f : Frame). answered (d .state) (d .setup .figures .system .sz) (requested f)) e ∙ shows
+
+module _ (d : Device) (s : List ℕ) (room : ℕ) where
+  abbrev pub after : Device
+  after = step d (frame s room)
+
+  obeys : (f : Frame) → judged s room (d .setup .station) ≡ f → after ≡ obeyed d (requested f)
+  obeys f e = ap (λ (g : Frame). obeyed d (requested g)) e
+
+  -- "SNAP copies SYS to SYSN"
+  pub snap-shown : judged s room (d .setup .station) ≡ Act 103 → d .state .readings .any ≡ true → Shows after 23 (stepFloat (d .state .readings .values .sys))
+  unfolding requested setupBy stateBy snapped registerAt
+  snap-shown e any =
+      let t = d .state in
+      let taken : State = record { readings = t .readings; flag = t .flag; snapshot = record { taken = true; sysn = t .readings .values .sys } } in
+      subst (λ (g : Device). Shows g 23 (stepFloat (t .readings .values .sys))) (sym (obeys (Act 103) e ∙ ap (λ (b : Bool). record { setup = d .setup; state = cond b taken t }) any)) refl
+
+  -- a written SZ
+  pub zero-shown : (x : Float) → judged s room (d .setup .station) ≡ Write 22 x → Shows after 22 (stepFloat (zeroSteps x)) × (after .state ≡ d .state)
+  unfolding requested setupBy stateBy registerAt
+  zero-shown x e = (subst (λ (g : Device). Shows g 22 (stepFloat (zeroSteps x))) (sym (obeys (Write 22 x) e)) refl, ap (λ (g : Device). g .state) (obeys (Write 22 x) e))
+
+  -- "a FLAG write clears the bits it lacks"
+  pub flag-shown : (x : Float) → judged s room (d .setup .station) ≡ Write 14 x → Shows after 14 (wholeFloat (bitAnd (d .state .flag) (flagWhole x)))
+  unfolding requested setupBy stateBy registerAt
+  flag-shown x e = subst (λ (g : Device). Shows g 14 (wholeFloat (bitAnd (d .state .flag) (flagWhole x)))) (sym (obeys (Write 14 x) e)) refl
+
+  -- "RST forgets readings, snapshot and filter", keeps SZ and leaves FLAG 32768: the device is one just started
+  pub rst-starts : judged s room (d .setup .station) ≡ Act 100 → after ≡ started (d .setup)
+  unfolding requested setupBy stateBy
+  rst-starts e = obeys (Act 100) e
+
+  -- "a peak reset, which sets both to the present SYS"
+  pub peaks-shown : judged s room (d .setup .station) ≡ Act 104 → d .state .readings .any ≡ true
+      → (after .state .readings .peak ≡ d .state .readings .values .sys) × (after .state .readings .trof ≡ d .state .readings .values .sys)
+  unfolding requested setupBy stateBy peaksReset
+  peaks-shown e any =
+      let t = d .state in
+      let reset : State = record { readings = peaksAt (t .readings); flag = t .flag; snapshot = t .snapshot } in
+      let is : after .state ≡ reset = ap (λ (g : Device). g .state) (obeys (Act 104) e) ∙ ap (λ (b : Bool). cond b reset t) any in
+      (ap (λ (u : State). u .readings .peak) is, ap (λ (u : State). u .readings .trof) is)

@@ -1,0 +1,11 @@
+mod Bits
+mod Events
+mod Extremes
+mod Shown
+pub mod Made
+pub mod Sound
+pub mod History
+pub mod Reached
+pub mod Corollaries
+pub mod Example
+pub mod Starred

@@ -1,0 +1,22 @@
+-- The starred cases hold, by computation. Assumes nothing.
+use mathlib.Core.Path.{refl}
+use lib.Ieee.{toBits, ofBits}
+use Rattle.arithmetic.specs.Round.{roundDiv, floorDiv}
+use Rattle.arithmetic.specs.Table.{between, interpolated}
+use Rattle.figures.specs.Default.{defaultSheet}
+use Rattle.figures.specs.Acceptable.{temperatures, linearities}
+use Rattle.sheet.specs.Bytes.{signedOf, figureAt, figureBytes}
+use Rattle.sheet.specs.Judge.{shortOf, wrongCount, beyond, notBelow, tooSteep, trailing, cellNumber, temperaturePointNumber, temperatureNumber, linearityPointNumber, linearityNumber, systemNumber, filterNumber, sectionsNumber}
+use Rattle.sheet.specs.Read.{cellAt, temperaturePointAt, linearityPointAt, temperatureAt, linearityAt, systemAt, filterAt, figuresOf, sheetNumber}
+use Rattle.sheet.specs.Write.{cellBytes, temperaturePointBytes, linearityPointBytes, temperatureBytes, linearityBytes, systemBytes, filterBytes, sheetBytes}
+use Rattle.compensation.specs.Hold.{hold}
+use Rattle.compensation.specs.Filter.{filtered}
+use Rattle.compensation.specs.Reading.{scaled, o, g, y, rawCell, craw, cell, rawSystem}
+use Rattle.compensation.specs.Stat.{bitAt, statOf}
+use Rattle.binary32.specs.Sent.{stepFloat}
+use Rattle.binary32.specs.Received.{zeroFits, nearestStep, zeroSteps}
+use Rattle.converter.specs.Starred.{Starred}
+
+pub starred-hold : Starred
+unfolding roundDiv floorDiv between interpolated defaultSheet temperatures linearities hold filtered scaled o g y rawCell craw cell rawSystem bitAt statOf toBits ofBits stepFloat zeroSteps zeroFits nearestStep sheetNumber sectionsNumber cellNumber temperatureNumber temperaturePointNumber linearityNumber linearityPointNumber systemNumber filterNumber shortOf wrongCount beyond notBelow tooSteep trailing figuresOf cellAt temperatureAt temperaturePointAt linearityAt linearityPointAt systemAt filterAt figureAt signedOf sheetBytes cellBytes temperatureBytes linearityBytes systemBytes filterBytes temperaturePointBytes linearityPointBytes figureBytes
+starred-hold = refl

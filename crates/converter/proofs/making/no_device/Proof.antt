@@ -1,0 +1,26 @@
+-- `converter::making::no_device` meets its contract: a fresh state but for its FLAG. Assumes nothing.
+use mathlib.Core.Path.{_≡_}
+use borrow.Author.Needs.{needs}
+use Rattle.figures.specs.declared.Calibration.{Calibration}
+use Rattle.sheet.specs.Read.{noFigures}
+use Rattle.state.specs.Request.{fresh}
+use Rattle.state.specs.declared.State.{State}
+use Rattle.converter.specs.Making.{noDevice}
+use Rattle.converter.proofs.making.no_device.Statement.{statement}
+use Rattle.converter.proofs.making.no_device.Tie as tie
+
+built : {f : Calibration} {s : State} → f ≡ noFigures → s ≡ fresh → record { setup = record { figures = f; station = 0 }; state = record { readings = s .readings; flag = 0; snapshot = s .snapshot } } ≡ noDevice
+unfolding fresh
+built e h = rw (e, h)
+
+no-figures-requires : tie.Need-no-figures-requires
+no-figures-requires c κs = search needs
+
+fresh-requires : tie.Need-fresh-requires
+fresh-requires c κs = search needs
+
+returns : tie.Need-returns
+returns c = built (c .before .no-figures .ensures) (c .fresh .ensures)
+
+pub no-device-spec : {M : Type 1} → statement M
+no-device-spec = tie.close (tie.spec no-figures-requires fresh-requires returns)

@@ -1,0 +1,62 @@
+-- The calls on a device, and what each makes of it (01).
+use mathlib.Core.Bool.{cond}
+use mathlib.Core.List.{List, [], _∷_}
+use Prim.Native.Nat.{ℕ}
+use lib.IntN.{ℤ}
+use Rattle.modbus.specs.Frame.{judged}
+use Rattle.modbus.specs.Reply.{valueReply, writeReply, exceptionReply}
+use Rattle.state.specs.Reading.{badReading, taken}
+use Rattle.state.specs.Request.{requested, setupBy, stateBy}
+use Rattle.state.specs.Register.{answered, numberOf}
+use Rattle.state.specs.Report.{reported}
+use Rattle.state.specs.declared.Setup.{Setup}
+use Rattle.converter.specs.declared.Device.{Device}
+use Rattle.state.specs.declared.requests.Request.{Request}
+use Rattle.state.specs.declared.registers.Answer.{Answer}
+use Rattle.state.specs.declared.registers.Answer.the-variants.{Value, Done, Refused}
+
+-- a call: its arguments alone. `room` is the length of the reply buffer.
+pub data Call : Type 0 where
+  reading : (elec temp : ℤ) (integrity : ℕ) → Call
+  frame : (bytes : List ℕ) (room : ℕ) → Call
+  report : Call
+
+-- what a frame asks of the station
+abbrev pub asked : Setup → List ℕ → ℕ → Request
+asked setup bytes room = requested (judged bytes room (setup .station))
+
+abbrev pub obeyed : Device → Request → Device
+obeyed d q = record { setup = setupBy (d .setup) q; state = stateBy (d .state) q }
+
+-- ---- the device after a call, and after a list of them: "Each call gets the device that the last gave back"
+
+abbrev pub read : Device → ℤ → ℤ → ℕ → Device
+read d elec temp integrity = record { setup = d .setup; state = taken (d .setup .figures) (d .state) elec temp integrity }
+
+abbrev pub step : Device → Call → Device
+step d (reading elec temp integrity) = cond (badReading elec temp integrity) d (read d elec temp integrity)
+step d (frame bytes room) = obeyed d (asked (d .setup) bytes room)
+step d report = d
+
+abbrev pub run : Device → List Call → Device
+run d [] = d
+run d (c ∷ cs) = run (step d c) cs
+
+-- ---- the number that a call gives, and a frame's reply
+
+unfoldable pub answerTo : Device → List ℕ → ℕ → Answer
+answerTo d bytes room = answered (d .state) (d .setup .figures .system .sz) (asked (d .setup) bytes room)
+
+abbrev pub number : Device → Call → ℕ
+number d (reading elec temp integrity) = cond (badReading elec temp integrity) 9 0
+number d (frame bytes room) = numberOf (answerTo d bytes room)
+number d report = reported (d .state .readings) .number
+
+-- the reply's bytes, none where the device is silent
+abbrev pub replyWith : List ℕ → ℕ → Answer → List ℕ
+replyWith bytes room (Value x) = valueReply bytes room x
+replyWith bytes room Done = writeReply bytes room
+replyWith bytes room (Refused n) = exceptionReply bytes room n
+
+abbrev pub reply : Device → List ℕ → ℕ → List ℕ
+reply d bytes room = replyWith bytes room (answerTo d bytes room)

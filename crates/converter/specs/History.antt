@@ -1,0 +1,113 @@
+-- Demand 3, one claim about the whole list of calls: the device that comes of it agrees with the log.
+use mathlib.Core.Path.{_≡_}
+use mathlib.Core.Bool.{true, false}
+use mathlib.Core.List.{List, [], _∷_, _++_, List·Memᴰ}
+use mathlib.Core.Logic.{_↔_}
+use mathlib.Core.Option.{Option, none, some}
+use Prim.Native.Nat.{ℕ}
+use lib.Ieee.{Float}
+use lib.IntN.{ℤ}
+use lib.Signed.{_≤ℤ_}
+use Rattle.compensation.specs.Stat.{Raised}
+use Rattle.compensation.specs.Faithful.{Faithful}
+use Rattle.binary32.specs.Sent.{stepFloat, wholeFloat}
+use Rattle.state.specs.Register.{registerAt}
+use Rattle.state.specs.Report.{reported}
+use Rattle.state.specs.declared.Readings.{Readings}
+use Rattle.converter.specs.declared.Device.{Device}
+use Rattle.state.specs.declared.registers.Answer.the-variants.{Value}
+use Rattle.converter.specs.Making.{made}
+use Rattle.converter.specs.Call.{Call, run}
+use Rattle.converter.specs.Log.{Kept, valued, Entry, joined, peakReset, Event, raised, kept, Log, latest, logOf}
+
+-- ---- FLAG: "A bit is set (latched) exactly when raised since its last clearing."
+
+-- the events fall into later ones, a raising of bit b, and earlier ones; no later one clears it
+pub record RaisedSince (b : ℕ) (events : List Event) : Type 0 where
+  pub later : List Event
+  pub bits : ℕ
+  pub earlier : List Event
+  pub split : events ≡ later ++ (raised bits ∷ earlier)
+  pub raises : Raised b bits
+  pub uncleared : (m : ℕ) → List·Memᴰ (kept m) later → Raised b m
+
+-- ---- PEAK and TROF: "the largest and smallest SYS since the first reading after a start or RST, or since a peak reset, which
+-- sets both to the present SYS"
+
+abbrev pub presentSys : Option Kept → List ℤ
+presentSys none = []
+presentSys (some k) = valued k .sys ∷ []
+
+abbrev pub sysSince : List Entry → List ℤ
+sysSince [] = []
+sysSince (joined k ∷ es) = valued k .sys ∷ sysSince es
+sysSince (peakReset ∷ es) = presentSys (latest es)
+
+pub record Largest (p : ℤ) (xs : List ℤ) : Type 0 where
+  pub among : List·Memᴰ p xs
+  pub bound : (x : ℤ) → List·Memᴰ x xs → x ≤ℤ p
+
+pub record Smallest (p : ℤ) (xs : List ℤ) : Type 0 where
+  pub among : List·Memᴰ p xs
+  pub bound : (x : ℤ) → List·Memᴰ x xs → p ≤ℤ x
+
+-- ---- once a reading is kept, and k is the last one
+
+pub record Right (r : Readings) (entries : List Entry) (k : Kept) : Type 0 where
+  pub present : r .any ≡ true
+  -- its input, and its values by steps 1 to 5
+  pub elec-is : r .elec ≡ k .elec
+  pub temp-is : r .temp ≡ k .temp
+  pub values-are : r .values ≡ valued k
+  -- 42, 52, 416 and 416 steps from exact compensation, by the figures in force at that reading; the range flags
+  pub faithful : Faithful (k .figures) (k .elec) (k .temp) (k .integrity) (r .values)
+  pub peak : Largest (r .peak) (sysSince entries)
+  pub trof : Smallest (r .trof) (sysSince entries)
+
+-- ---- "An accepted read or report of such a value gives its float."
+
+-- a read of register n sends x
+abbrev pub Shows : Device → ℕ → Float → Type 0
+Shows d n x = registerAt (d .state) (d .setup .figures .system .sz) n ≡ Value x
+
+-- at all times: FLAG, the SZ in force, and 0.0 for RST, SNAP and peak reset
+pub record AlwaysShown (d : Device) (l : Log) : Type 0 where
+  pub flag : Shows d 14 (wholeFloat (d .state .flag))
+  pub sz : Shows d 22 (stepFloat (l .setup .figures .system .sz))
+  pub rst : Shows d 100 (wholeFloat 0)
+  pub snap : Shows d 103 (wholeFloat 0)
+  pub peak-reset : Shows d 104 (wholeFloat 0)
+
+-- once a reading is kept, and k is the last one
+pub record Shown (d : Device) (k : Kept) : Type 0 where
+  pub stat : Shows d 6 (wholeFloat (valued k .stat))
+  pub sout : Shows d 9 (stepFloat (valued k .sys))
+  pub sys : Shows d 10 (stepFloat (valued k .sys))
+  pub temp : Shows d 11 (stepFloat (k .temp))
+  pub sraw : Shows d 12 (stepFloat (valued k .sraw))
+  pub cell : Shows d 13 (stepFloat (valued k .cell))
+  pub craw : Shows d 15 (stepFloat (valued k .craw))
+  pub elec : Shows d 16 (stepFloat (k .elec))
+  pub peak : Shows d 24 (stepFloat (d .state .readings .peak))
+  pub trof : Shows d 25 (stepFloat (d .state .readings .trof))
+  pub report : reported (d .state .readings) ≡ record {
+    number = 0;
+    report = record { sys = stepFloat (valued k .sys); peak = stepFloat (d .state .readings .peak); trof = stepFloat (d .state .readings .trof); cell = stepFloat (valued k .cell) };
+  }
+
+-- ---- the device beside the log
+
+pub record Agrees (d : Device) (l : Log) : Type 0 where
+  -- the figures in force
+  pub in-force : d .setup ≡ l .setup
+  -- FLAG, at all times
+  pub latched : (b : ℕ) → Raised b (d .state .flag) ↔ RaisedSince b (l .events)
+  pub always-shown : AlwaysShown d l
+  -- there is a reading exactly when the log keeps one
+  pub none-kept : latest (l .readings) ≡ none → d .state .readings .any ≡ false
+  pub last-kept : (k : Kept) → latest (l .readings) ≡ some k → Right (d .state .readings) (l .readings) k × Shown d k
+
+-- from sheet bytes and a station that a making accepts, for every list of calls, refused ones included
+abbrev pub History : Type 0
+History = (sheet : List ℕ) (station : ℕ) → made sheet station .number ≡ 0 → (calls : List Call)
+    → Agrees (run (made sheet station .device) calls) (logOf sheet station calls)

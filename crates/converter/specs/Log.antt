@@ -1,0 +1,94 @@
+-- The log (01, "The log"): "fed the making's sheet and station and the calls' arguments, nothing from device or answers. It keeps
+-- the figures in force (the sheet's, SZ as last written), the held value (the filtered input), the readings with the peak resets
+-- among them, and each raising and clearing of a FLAG bit."
+use mathlib.Core.Bool.{true, false, cond}
+use mathlib.Core.List.{List, [], _∷_}
+use mathlib.Core.Option.{Option, none, some}
+use Prim.Native.Nat.{ℕ}
+use lib.IntN.{ℤ, pos}
+use Rattle.figures.specs.declared.Calibration.{Calibration}
+use Rattle.compensation.specs.Filter.{filtered}
+use Rattle.compensation.specs.Values.{valuesOf}
+use Rattle.compensation.specs.declared.steps.Values.{Values}
+use Rattle.state.specs.Reading.{badReading}
+use Rattle.state.specs.Request.{reboot, setupBy}
+use Rattle.state.specs.declared.Setup.{Setup}
+use Rattle.state.specs.declared.requests.Request.{Request}
+use Rattle.state.specs.declared.requests.Request.the-variants.{Refuse, Show, Flag, Zero, Rst, Snap, PeakReset}
+use Rattle.converter.specs.Making.{setupOf}
+use Rattle.converter.specs.Call.{Call, reading, frame, report, asked}
+
+-- a reading that joined: the figures in force at it, its filtered input, TEMP and integrity byte
+pub record Kept : Type 0 where
+  pub figures : Calibration
+  pub elec : ℤ
+  pub temp : ℤ
+  pub integrity : ℕ
+
+-- "A reading joins by steps 1 to 5"
+abbrev pub valued : Kept → Values
+valued k = valuesOf (k .figures) (k .elec) (k .temp) (k .integrity)
+
+pub data Entry : Type 0 where
+  joined : Kept → Entry
+  peakReset : Entry
+
+-- `raised m` raises the bits of m; `kept m` clears every bit that m lacks
+pub data Event : Type 0 where
+  raised : ℕ → Event
+  kept : ℕ → Event
+
+-- both lists have the newest first
+pub record Log : Type 0 where
+  pub setup : Setup
+  pub held : Option ℤ
+  pub readings : List Entry
+  pub events : List Event
+
+-- the last reading kept, if there is one
+abbrev pub latest : List Entry → Option Kept
+latest [] = none
+latest (joined k ∷ es) = some k
+latest (peakReset ∷ es) = latest es
+
+-- "start and RST drop readings, peak resets and held value"; all bits are cleared, then REBOOT is raised
+abbrev pub begun : Setup → List Event → Log
+begun setup events = record { setup = setup; held = none; readings = []; events = raised reboot ∷ kept 0 ∷ events }
+
+-- step 1: without a held value, this is the first reading
+abbrev pub heldBy : Calibration → Option ℤ → ℤ → ℤ
+heldBy c none elec = filtered (c .filter) true (pos 0) elec
+heldBy c (some held) elec = filtered (c .filter) false held elec
+
+abbrev pub keptOf : Log → ℤ → ℤ → ℕ → Kept
+keptOf l elec temp integrity = record { figures = l .setup .figures; elec = heldBy (l .setup .figures) (l .held) elec; temp = temp; integrity = integrity }
+
+abbrev pub join : Log → Kept → Log
+join l k = record { setup = l .setup; held = some (k .elec); readings = joined k ∷ l .readings; events = raised (valued k .stat) ∷ l .events }
+
+-- "10 judged by the log": no peak reset before the first reading
+abbrev pub resetPeaks : Option Kept → List Entry → List Entry
+resetPeaks none es = es
+resetPeaks (some k) es = peakReset ∷ es
+
+-- "Reads, SNAP, reports and refused calls .. do nothing."
+abbrev pub heed : Log → Request → Log
+heed l (Refuse n) = l
+heed l (Show r) = l
+heed l (Flag m) = record { setup = l .setup; held = l .held; readings = l .readings; events = kept m ∷ l .events }
+heed l (Zero z) = record { setup = setupBy (l .setup) (Zero z); held = l .held; readings = l .readings; events = l .events }
+heed l Rst = begun (setupBy (l .setup) Rst) (l .events)
+heed l Snap = l
+heed l PeakReset = record { setup = l .setup; held = l .held; readings = resetPeaks (latest (l .readings)) (l .readings); events = l .events }
+
+abbrev pub note : Log → Call → Log
+note l (reading elec temp integrity) = cond (badReading elec temp integrity) l (join l (keptOf l elec temp integrity))
+note l (frame bytes room) = heed l (asked (l .setup) bytes room)
+note l report = l
+
+abbrev pub noted : Log → List Call → Log
+noted l [] = l
+noted l (c ∷ cs) = noted (note l c) cs
+
+abbrev pub logOf : List ℕ → ℕ → List Call → Log
+logOf sheet station calls = noted (begun (setupOf sheet station) []) calls

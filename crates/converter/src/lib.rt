@@ -1,0 +1,98 @@
+// The converter (01): a device and its entries, making, reading, report and bus frame. Each takes any bytes and numbers, and any
+// device that a making and these calls gave; it answers 0, or the number of 01's table of turned-down calls.
+ghost use mathlib.Core.Path.{_≡_};
+ghost use Rattle.state.specs.Report.{reported};
+ghost use Rattle.converter.specs.Reached.{Reached, Making, Reading, Serving};
+
+mod bus;
+mod making;
+
+use state::Reported;
+use state::Setup;
+use state::State;
+
+#[repr(C)]
+pub struct Device {
+    pub setup: Setup,
+    pub state: State,
+}
+
+// 0 and the device; or the number of the refusal, and the device that was handed in, of a making a record of zeros.
+#[repr(C)]
+pub struct Outcome {
+    pub number: u8,
+    pub device: Device,
+}
+
+// And the length replied, 0 for none.
+#[repr(C)]
+pub struct Served {
+    pub number: u8,
+    pub length: usize,
+    pub device: Device,
+}
+
+impl Device {
+    // A device of a calibration sheet and a station: 8, then 1 to 7.
+    pub fn make(sheet: &[u8], station: u8) -> Outcome
+        ensures { λ r. ⌜ Making (now (sheet .entry)) station r ⌝ }
+    {
+        if !making::station_fits(station) {
+            return making::refused(8);
+        }
+        let read = sheet::read(sheet);
+        if read.number != 0 {
+            return making::refused(read.number);
+        }
+        let figures = read.figures;
+        let setup = Setup { figures, station };
+        let state = state::fresh();
+        let device = Device { setup, state };
+        Outcome { number: 0, device }
+    }
+
+    // A reading, from ELEC, TEMP and the integrity byte: 9.
+    pub fn reading(self, elec: i64, temp: i64, integrity: u8) -> Outcome
+        requires { ⌜ Reached self ⌝ }
+        ensures { λ r. ⌜ Reading self elec temp integrity r ⌝ }
+    {
+        if state::bad_reading(elec, temp, integrity) {
+            return Outcome {
+                number: 9,
+                device: self,
+            };
+        }
+        let setup = self.setup;
+        let state = state::take(setup.figures, self.state, elec, temp, integrity);
+        let mut device = self;
+        device.state = state;
+        Outcome { number: 0, device }
+    }
+
+    // SYS, PEAK, TROF and CELL of the readings: 10, and 0.0 each.
+    pub fn report(self) -> Reported
+        requires { ⌜ Reached self ⌝ }
+        ensures { λ r. ⌜ r ≡ reported (self .state .readings) ⌝ }
+    {
+        let state = self.state;
+        state::report_of(state.readings)
+    }
+
+    // A bus frame, and a buffer for the reply, of which the bytes past the reply stay as they are: 12 to 16, then 10 or 11.
+    pub fn frame(self, frame: &[u8], reply: &mut [u8]) -> Served
+        requires { ⌜ Reached self ⌝ }
+        ensures { λ r. ⌜ Serving self (now (frame .entry)) (now (reply .entry)) (now (reply .exit)) r ⌝ }
+    {
+        let setup = self.setup;
+        let request = state::request_of(modbus::frame::judge(frame, reply.len(), setup.station));
+        let answer = bus::answer_of(self, request);
+        let length = bus::reply_with(frame, reply, answer);
+        let number = bus::number_in(answer);
+        let device = bus::obey(self, request);
+        Served {
+            number,
+            length,
+            device,
+        }
+    }
+}
