@@ -5,4 +5,3 @@ pub mod Rows
 pub mod Near
 pub mod Exact
 pub mod Slope
-pub mod Starred

@@ -3,4 +3,3 @@ pub mod Fraction
 pub mod Table
 pub mod Segment
 pub mod Two
-pub mod Starred

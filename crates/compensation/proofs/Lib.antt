@@ -7,4 +7,3 @@ pub mod FilterHull
 pub mod FilterCases
 pub mod Flags
 pub mod Faithful
-pub mod Starred

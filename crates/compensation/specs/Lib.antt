@@ -5,4 +5,3 @@ pub mod Exact
 pub mod Stat
 pub mod Values
 pub mod Faithful
-pub mod Starred
