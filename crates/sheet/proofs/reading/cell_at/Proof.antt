@@ -1,8 +1,6 @@
 -- Each figure stands at its place. Assumes nothing.
+use Rattle.integers.proofs.Machine.{held}
 use Rattle.sheet.specs.Read.{cellAt}
-use mathlib.Core.Path.{_≡_}
-use mir.Syntax.{w64}
-use mir.Val.{ofZ, toZ}
 use borrow.Author.Needs.{needs}
 use Rattle.sheet.proofs.reading.cell_at.Statement.{statement}
 use Rattle.sheet.proofs.reading.cell_at.Tie as tie
@@ -33,12 +31,7 @@ figure-at-requires-4 c κs = search needs
 
 returns : tie.Need-returns
 unfolding cellAt
-returns c =
-    let b1 : toZ w64 (ofZ w64 (c .before .before .before .figure-at .result)) ≡ c .before .before .before .figure-at .result = search needs in
-    let b2 : toZ w64 (ofZ w64 (c .before .before .figure-at2 .result)) ≡ c .before .before .figure-at2 .result = search needs in
-    let b3 : toZ w64 (ofZ w64 (c .before .figure-at3 .result)) ≡ c .before .figure-at3 .result = search needs in
-    let b4 : toZ w64 (ofZ w64 (c .figure-at4 .result)) ≡ c .figure-at4 .result = search needs in
-    cc
+returns c = rw (held (c .before .before .before .figure-at .ok) (c .before .before .before .figure-at .ensures), held (c .before .before .figure-at2 .ok) (c .before .before .figure-at2 .ensures), held (c .before .figure-at3 .ok) (c .before .figure-at3 .ensures), held (c .figure-at4 .ok) (c .figure-at4 .ensures))
 
 pub cell-at-spec : {M : Type 1} → statement M
 cell-at-spec =

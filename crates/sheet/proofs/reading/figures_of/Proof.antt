@@ -31,12 +31,10 @@ filter-at-requires c κs = search needs
 returns : tie.Need-returns
 unfolding figuresOf
 returns c =
-    let p = c .before .before .before .linearity-place .ensures .0 in
-    let q = c .before .before .before .before .before .before .system-place .ensures .0 in
-    let l = rw p at (c .before .before .linearity-at .ensures) in
-    let y = rw q at (c .before .system-at .ensures) in
-    let f = rw q at (c .filter-at .ensures) in
-    cc (l, y, f)
+    let places = c .before .before .before in
+    let p = places .linearity-place .ensures .0 in
+    let q = places .before .before .before .system-place .ensures .0 in
+    rw (c .filter-at .ensures, c .before .system-at .ensures, c .before .before .linearity-at .ensures, places .before .temperature-at .ensures, places .before .before .cell-at .ensures, p, q)
 
 pub figures-of-spec : {M : Type 1} → statement M
 figures-of-spec =

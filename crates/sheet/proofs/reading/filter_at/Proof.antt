@@ -1,8 +1,6 @@
 -- Each figure stands at its place. Assumes nothing.
+use Rattle.integers.proofs.Machine.{held}
 use Rattle.sheet.specs.Read.{filterAt}
-use mathlib.Core.Path.{_≡_}
-use mir.Syntax.{w64}
-use mir.Val.{ofZ, toZ}
 use borrow.Author.Needs.{needs}
 use Rattle.sheet.proofs.reading.filter_at.Statement.{statement}
 use Rattle.sheet.proofs.reading.filter_at.Tie as tie
@@ -21,10 +19,7 @@ figure-at-requires-2 c κs = search needs
 
 returns : tie.Need-returns
 unfolding filterAt
-returns c =
-    let b1 : toZ w64 (ofZ w64 (c .before .figure-at .result)) ≡ c .before .figure-at .result = search needs in
-    let b2 : toZ w64 (ofZ w64 (c .figure-at2 .result)) ≡ c .figure-at2 .result = search needs in
-    cc
+returns c = rw (held (c .before .figure-at .ok) (c .before .figure-at .ensures), held (c .figure-at2 .ok) (c .figure-at2 .ensures))
 
 pub filter-at-spec : {M : Type 1} → statement M
 filter-at-spec =

@@ -18,7 +18,7 @@ linearity-points-at-requires c κs = search needs
 
 returns : tie.Need-returns
 unfolding linearityAt
-returns c = cc
+returns c = rw (c .linearity-points-at .ensures, c .before .at-most .ensures, c .before .before .count-at .ensures)
 
 pub linearity-at-spec : {M : Type 1} → statement M
 linearity-at-spec =

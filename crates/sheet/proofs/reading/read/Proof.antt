@@ -19,14 +19,11 @@ returns : tie.Need-returns
 unfolding readSheet
 returns c =
     let n = c .before .before .sheet-number .ensures in
-    let e = ne-eqb _ 0 (λ z. c .before .if1 .taken (n ∙ z)) in
-    simp e (cc (n, c .no-figures .ensures))
+    rw (n, c .no-figures .ensures, ne-eqb _ 0 (λ z. c .before .if1 .taken (n ∙ z)))
 
 returns-2 : tie.Need-returns-2
 unfolding readSheet
-returns-2 c =
-    let n = sym (c .before .sheet-number .ensures) ∙ c .if1 .left in
-    simp n (cc (c .before .before .figures-of .ensures))
+returns-2 c = rw (c .before .before .figures-of .ensures, sym (c .before .sheet-number .ensures) ∙ c .if1 .left)
 
 pub read-spec : {M : Type 1} → statement M
 read-spec =

@@ -1,8 +1,6 @@
 -- Each figure stands at its place. Assumes nothing.
+use Rattle.integers.proofs.Machine.{held}
 use Rattle.sheet.specs.Read.{systemAt}
-use mathlib.Core.Path.{_≡_}
-use mir.Syntax.{w64}
-use mir.Val.{ofZ, toZ}
 use borrow.Author.Needs.{needs}
 use Rattle.sheet.proofs.reading.system_at.Statement.{statement}
 use Rattle.sheet.proofs.reading.system_at.Tie as tie
@@ -39,13 +37,7 @@ figure-at-requires-5 c κs = search needs
 
 returns : tie.Need-returns
 unfolding systemAt
-returns c =
-    let b1 : toZ w64 (ofZ w64 (c .before .before .before .before .figure-at .result)) ≡ c .before .before .before .before .figure-at .result = search needs in
-    let b2 : toZ w64 (ofZ w64 (c .before .before .before .figure-at2 .result)) ≡ c .before .before .before .figure-at2 .result = search needs in
-    let b3 : toZ w64 (ofZ w64 (c .before .before .figure-at3 .result)) ≡ c .before .before .figure-at3 .result = search needs in
-    let b4 : toZ w64 (ofZ w64 (c .before .figure-at4 .result)) ≡ c .before .figure-at4 .result = search needs in
-    let b5 : toZ w64 (ofZ w64 (c .figure-at5 .result)) ≡ c .figure-at5 .result = search needs in
-    cc
+returns c = rw (held (c .before .before .before .before .figure-at .ok) (c .before .before .before .before .figure-at .ensures), held (c .before .before .before .figure-at2 .ok) (c .before .before .before .figure-at2 .ensures), held (c .before .before .figure-at3 .ok) (c .before .before .figure-at3 .ensures), held (c .before .figure-at4 .ok) (c .before .figure-at4 .ensures), held (c .figure-at5 .ok) (c .figure-at5 .ensures))
 
 pub system-at-spec : {M : Type 1} → statement M
 system-at-spec =

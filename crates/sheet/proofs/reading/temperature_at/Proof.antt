@@ -18,7 +18,7 @@ temperature-points-at-requires c κs = search needs
 
 returns : tie.Need-returns
 unfolding temperatureAt
-returns c = cc
+returns c = rw (c .temperature-points-at .ensures, c .before .at-most .ensures, c .before .before .count-at .ensures)
 
 pub temperature-at-spec : {M : Type 1} → statement M
 temperature-at-spec =

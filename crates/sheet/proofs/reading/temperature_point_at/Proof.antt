@@ -1,8 +1,6 @@
 -- Each figure stands at its place. Assumes nothing.
+use Rattle.integers.proofs.Machine.{held}
 use Rattle.sheet.specs.Read.{temperaturePointAt}
-use mathlib.Core.Path.{_≡_}
-use mir.Syntax.{w64}
-use mir.Val.{ofZ, toZ}
 use borrow.Author.Needs.{needs}
 use Rattle.sheet.proofs.reading.temperature_point_at.Statement.{statement}
 use Rattle.sheet.proofs.reading.temperature_point_at.Tie as tie
@@ -24,11 +22,7 @@ figure-at-requires-3 c κs = search needs
 
 returns : tie.Need-returns
 unfolding temperaturePointAt
-returns c =
-    let b1 : toZ w64 (ofZ w64 (c .before .before .figure-at .result)) ≡ c .before .before .figure-at .result = search needs in
-    let b2 : toZ w64 (ofZ w64 (c .before .figure-at2 .result)) ≡ c .before .figure-at2 .result = search needs in
-    let b3 : toZ w64 (ofZ w64 (c .figure-at3 .result)) ≡ c .figure-at3 .result = search needs in
-    cc
+returns c = rw (held (c .before .before .figure-at .ok) (c .before .before .figure-at .ensures), held (c .before .figure-at2 .ok) (c .before .figure-at2 .ensures), held (c .figure-at3 .ok) (c .figure-at3 .ensures))
 
 pub temperature-point-at-spec : {M : Type 1} → statement M
 temperature-point-at-spec =

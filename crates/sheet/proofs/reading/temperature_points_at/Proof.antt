@@ -3,7 +3,7 @@ use Prim.Native.Nat.{_-_, _≤_}
 use Rattle.figures.specs.Default.{noTemperature}
 use Rattle.sheet.proofs.Chain.{points-at-next}
 use Rattle.sheet.specs.Read.{pointsAt, temperaturePointAt}
-use mathlib.Core.Path.{_∙_, _≡_, ap, refl}
+use mathlib.Core.Path.{_∙_, _≡_, ap, refl, sym}
 use native.Mathlib.Omega.{arith}
 use Rattle.sheet.proofs.reading.temperature_points_at.Statement.{statement}
 use Rattle.sheet.proofs.reading.temperature_points_at.Tie as tie
@@ -42,7 +42,7 @@ loop-again : tie.Need-loop-again Inv-loop μ-loop
 loop-again c =
     let l = c .before .before .loop in
     let a = c .before .before .before .before .args in
-    (cc (points-at-next noTemperature temperaturePointAt 24 5 (a .s .now) (a .at) (l .i)), omega arith)
+    (rw (c .temperature-point-at .ensures, l .inv .0) (sym (points-at-next noTemperature temperaturePointAt 24 5 (a .s .now) (a .at) (l .i))), omega arith)
 
 returns : tie.Need-returns Inv-loop μ-loop
 returns c =
