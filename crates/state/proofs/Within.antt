@@ -1,5 +1,5 @@
--- A float of steps may be asked for what a register of a reading reads, and a value so small is itself through an i64's bits. Assumes
--- nothing.
+-- A float of steps may be asked for what a register of a reading reads, and a value so small is itself, and as small, through an
+-- i64's bits. Assumes nothing.
 use mathlib.Core.Path.{_≡_}
 use Prim.Native.Nat.{ℕ}
 use lib.Dec.{eqb}
@@ -30,3 +30,6 @@ steps-within r n h =
 
 pub kept : {z : ℤ} → z within valueMost → toZ w64 (ofZ w64 z) ≡ z
 kept {z} h = toZ-ofZ w64 z (fits (known h) tt)
+
+pub kept-within : {z : ℤ} → z within valueMost → (toZ w64 (ofZ w64 z)) within valueMost
+kept-within h = rw (kept h) h

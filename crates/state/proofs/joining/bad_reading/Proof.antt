@@ -1,7 +1,6 @@
 -- `state::joining::bad_reading` meets its contract, test by test. Assumes nothing.
 use mathlib.Core.Path.{_≡_, sym, _∙_}
 use mir.ValLaws.{toZ-ofZ}
-use borrow.Author.Needs.{needs}
 use Rattle.compensation.specs.Filter.{elecMost}
 use Rattle.state.specs.Reading.{beyond, tempMost, badReading}
 use Rattle.state.proofs.joining.bad_reading.Statement.{statement}
@@ -14,14 +13,14 @@ temp-test : (c : tie.After-is-outside2) → c .is-outside2 .result ≡ beyond te
 temp-test c = simp (toZ-ofZ, c .before .before .before .fits .temp) at (c .is-outside2 .ensures)
 
 is-outside-requires : tie.Need-is-outside-requires
-is-outside-requires c κs = search needs
+is-outside-requires c κs = tt
 
 returns : tie.Need-returns
 unfolding badReading
 returns c = rw (sym (elec-test (c .before)) ∙ c .if1 .taken)
 
 is-outside-requires-2 : tie.Need-is-outside-requires-2
-is-outside-requires-2 c κs = search needs
+is-outside-requires-2 c κs = tt
 
 returns-2 : tie.Need-returns-2
 unfolding badReading

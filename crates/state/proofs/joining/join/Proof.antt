@@ -4,7 +4,6 @@ use mathlib.Core.Bool.{true}
 use lib.IntN.{ℤ}
 use mir.Syntax.{w64}
 use mir.ValLaws.{toZ-ofZ}
-use borrow.Author.Needs.{needs}
 use Rattle.integers.proofs.Machine.{held}
 use Rattle.compensation.specs.declared.steps.Values.{Values}
 use Rattle.state.specs.declared.Readings.{Readings}
@@ -18,10 +17,10 @@ unfolding joined
 built r elec temp v e t p q = rw (e, t, p, q)
 
 peak-after-requires : tie.Need-peak-after-requires
-peak-after-requires c κs = search needs
+peak-after-requires c κs = tt
 
 trof-after-requires : tie.Need-trof-after-requires
-trof-after-requires c κs = search needs
+trof-after-requires c κs = tt
 
 returns : tie.Need-returns
 returns c =

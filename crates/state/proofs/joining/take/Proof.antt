@@ -6,10 +6,11 @@ use lib.IntN.{ℤ}
 use mir.Syntax.{w64}
 use mir.Val.{toZ, ofZ}
 use mir.ValLaws.{toZ-ofZ}
-use borrow.Author.Needs.{needs}
+use Rattle.integers.specs.Within.{_within_}
 use Rattle.integers.proofs.Machine.{held, fits, known}
 use Rattle.figures.specs.declared.Calibration.{Calibration}
 use Rattle.compensation.specs.declared.steps.Values.{Values}
+use Rattle.compensation.specs.Filter.{elecMost}
 use Rattle.compensation.specs.Values.{valuesOf}
 use Rattle.compensation.proofs.FilterHull.{filtered-within}
 use Rattle.state.specs.declared.Readings.{Readings}
@@ -24,8 +25,13 @@ built : (c : Calibration) (s : State) (elec temp : ℤ) (integrity : ℕ) {h t :
 unfolding taken
 built c s elec temp integrity e f g k = rw (k, g, f, e)
 
+still : {z : ℤ} → z within elecMost → (toZ w64 (ofZ w64 z)) within elecMost
+still {z} h = rw (toZ-ofZ w64 z (fits (known h) tt)) h
+
 filter-input-requires : tie.Need-filter-input-requires
-filter-input-requires c κs = search needs
+filter-input-requires c κs =
+    let p = c .before .before .before .pre in
+    record { acceptable = p .acceptable .filter-ok; held-in = still (p .held-in); input-in = still (p .elec-in) }
 
 held-is : (c : tie.After-filter-input)
     → let s = c .before .before .before .before in toZ w64 (ofZ w64 (c .filter-input .result)) ≡ heldAfter (s .args .figures) (s .args .state .readings) (s .args .elec)
@@ -40,7 +46,7 @@ compensate-requires c κs =
     rw (held-is c) (record { acceptable = p .acceptable; elec-in = filtered-within (s .args .figures .filter) _ _ _ (p .acceptable .filter-ok) (p .held-in) (p .elec-in) })
 
 join-requires : tie.Need-join-requires
-join-requires c κs = search needs
+join-requires c κs = tt
 
 returns : tie.Need-returns
 returns c =

@@ -6,13 +6,13 @@ use types.Run.{OneOf, miss}
 use denote.Enum.Declared.{tagOf}
 use mir.Syntax.{w64}
 use mir.ValLaws.{toZ-ofZ}
-use borrow.Author.Needs.{needs}
 use Rattle.state.specs.declared.State.{State}
 use Rattle.state.specs.declared.requests.Request.{Request}
 use Rattle.state.specs.declared.requests.Request.the-variants.{Refuse, Show, Flag, Zero, Rst, Snap, PeakReset}
 use Rattle.state.specs.declared.registers.Answer.{Answer}
 use Rattle.state.specs.declared.registers.Answer.the-variants.{Done}
 use Rattle.state.specs.Register.{registerAt, answered}
+use Rattle.state.proofs.Within.{kept-within}
 use Rattle.state.proofs.requests.Request as R
 use Rattle.state.proofs.registers.answer_to.Statement.{statement}
 use Rattle.state.proofs.registers.answer_to.Tie as tie
@@ -31,25 +31,27 @@ others s sz Snap h = absurd (miss (2 ∷ 3 ∷ 4 ∷ []) 5 tt h)
 others s sz PeakReset h = absurd (miss (2 ∷ 3 ∷ 4 ∷ []) 6 tt h)
 
 enum-known-request : tie.Need-enum-known-request
-enum-known-request c = search needs
+enum-known-request c = c .match .keys1
 
 enum-known-request-2 : tie.Need-enum-known-request-2
-enum-known-request-2 c = search needs
+enum-known-request-2 c = c .match .keys2
 
 register-at-requires : tie.Need-register-at-requires
-register-at-requires c κs = search needs
+register-at-requires c κs =
+    let p = c .before .before .before .pre in
+    record { readings-in = p .readings-in; sysn-in = p .sysn-in; sz-in = kept-within (p .sz-in) }
 
 enum-told : tie.Need-enum-told
-enum-told c = search needs
+enum-told c = c .match .keys3
 
 on-reading-requires : tie.Need-on-reading-requires
-on-reading-requires c κs = search needs
+on-reading-requires c κs = tt
 
 enum-told-2 : tie.Need-enum-told-2
-enum-told-2 c = search needs
+enum-told-2 c = c .match .keys4
 
 on-reading-requires-2 : tie.Need-on-reading-requires-2
-on-reading-requires-2 c κs = search needs
+on-reading-requires-2 c κs = tt
 
 returns : tie.Need-returns
 unfolding answered

@@ -1,11 +1,10 @@
 -- `state::registers::reading_at` meets its contract, by whether there is a reading. Assumes nothing.
-use borrow.Author.Needs.{needs}
 use Rattle.state.specs.Register.{readingAt}
 use Rattle.state.proofs.registers.reading_at.Statement.{statement}
 use Rattle.state.proofs.registers.reading_at.Tie as tie
 
 reading-float-requires : tie.Need-reading-float-requires
-reading-float-requires c κs = search needs
+reading-float-requires c κs = c .before .pre
 
 returns : tie.Need-returns
 unfolding readingAt

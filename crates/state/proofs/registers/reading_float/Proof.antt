@@ -1,6 +1,5 @@
 -- `state::registers::reading_float` meets its contract: STAT as a whole number, all else in steps. Assumes nothing.
 use mathlib.Core.Path.{ap, _∙_}
-use borrow.Author.Needs.{needs}
 use borrow.Author.Tests.{eq-eqb, ne-eqb}
 use Rattle.integers.proofs.Machine.{held}
 use Rattle.binary32.specs.Sent.{stepFloat}
@@ -10,14 +9,14 @@ use Rattle.state.proofs.registers.reading_float.Statement.{statement}
 use Rattle.state.proofs.registers.reading_float.Tie as tie
 
 float-of-whole-requires : tie.Need-float-of-whole-requires
-float-of-whole-requires c κs = search needs
+float-of-whole-requires c κs = tt
 
 returns : tie.Need-returns
 unfolding readingFloat
 returns c = simp (eq-eqb _ _ (c .before .before .if1 .taken)) (c .float-of-whole .ensures)
 
 steps-at-requires : tie.Need-steps-at-requires
-steps-at-requires c κs = search needs
+steps-at-requires c κs = tt
 
 float-of-steps-requires : tie.Need-float-of-steps-requires
 float-of-steps-requires c κs =

@@ -1,11 +1,10 @@
 -- `state::reporting::floats_of` meets its contract: each call gives its float. Assumes nothing.
 use mathlib.Core.Path.{_≡_, ap, _∙_}
 use lib.Ieee.{Float}
-use borrow.Author.Needs.{needs}
 use Rattle.binary32.specs.Sent.{stepFloat}
 use Rattle.state.specs.declared.Readings.{Readings}
 use Rattle.state.specs.Report.{reportOf}
-use Rattle.state.proofs.Within.{kept}
+use Rattle.state.proofs.Within.{kept, kept-within}
 use Rattle.state.proofs.reporting.floats_of.Statement.{statement}
 use Rattle.state.proofs.reporting.floats_of.Tie as tie
 
@@ -14,16 +13,16 @@ built : (r : Readings) {s p t k : Float} → s ≡ stepFloat (r .values .sys) �
 built r s p t k = rw (s, p, t, k)
 
 float-of-steps-requires : tie.Need-float-of-steps-requires
-float-of-steps-requires c κs = search needs
+float-of-steps-requires c κs = kept-within (c .before .before .pre .sys-in)
 
 float-of-steps-requires-2 : tie.Need-float-of-steps-requires-2
-float-of-steps-requires-2 c κs = search needs
+float-of-steps-requires-2 c κs = kept-within (c .before .before .before .before .pre .peak-in)
 
 float-of-steps-requires-3 : tie.Need-float-of-steps-requires-3
-float-of-steps-requires-3 c κs = search needs
+float-of-steps-requires-3 c κs = kept-within (c .before .before .before .before .before .before .pre .trof-in)
 
 float-of-steps-requires-4 : tie.Need-float-of-steps-requires-4
-float-of-steps-requires-4 c κs = search needs
+float-of-steps-requires-4 c κs = kept-within (c .before .before .before .before .before .before .before .before .pre .cell-in)
 
 returns : tie.Need-returns
 returns c =

@@ -1,12 +1,11 @@
 -- `state::reporting::report_of` meets its contract, by whether there is a reading. Assumes nothing.
 use lib.Ieee.{ofInt, ofBits}
-use borrow.Author.Needs.{needs}
 use Rattle.state.specs.Report.{reported}
 use Rattle.state.proofs.reporting.report_of.Statement.{statement}
 use Rattle.state.proofs.reporting.report_of.Tie as tie
 
 floats-of-requires : tie.Need-floats-of-requires
-floats-of-requires c κs = search needs
+floats-of-requires c κs = c .before .pre
 
 returns : tie.Need-returns
 unfolding reported

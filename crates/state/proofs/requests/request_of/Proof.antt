@@ -1,6 +1,5 @@
 -- `state::requests::request_of` meets its contract: each arm by the frame that it is for, and the tests in it. Assumes nothing.
 use mathlib.Core.Path.{_≡_, refl, ap}
-use borrow.Author.Needs.{needs}
 use borrow.Author.Tests.{eq-eqb, ne-eqb}
 use Rattle.integers.proofs.Machine.{held}
 use Rattle.modbus.specs.declared.frame.Frame.{Frame}
@@ -14,26 +13,26 @@ by-case : {f g : Frame} {r : Request} → f ≡ g → r ≡ requested g → r �
 by-case e p = rw e p
 
 enum-known-frame : tie.Need-enum-known-frame
-enum-known-frame c = search needs
+enum-known-frame c = c .match .keys1
 
 enum-known-frame-2 : tie.Need-enum-known-frame-2
-enum-known-frame-2 c = search needs
+enum-known-frame-2 c = c .match .keys2
 
 enum-known-frame-3 : tie.Need-enum-known-frame-3
-enum-known-frame-3 c = search needs
+enum-known-frame-3 c = c .match .keys3
 
 flag-whole-requires : tie.Need-flag-whole-requires
-flag-whole-requires c κs = search needs
+flag-whole-requires c κs = tt
 
 returns : tie.Need-returns
 unfolding requested
 returns c = by-case (c .before .before .before .frame3 .given .1) (simp (eq-eqb _ _ (c .before .if1 .taken)) (ap Flag (c .flag-whole .ensures)))
 
 zero-steps-requires : tie.Need-zero-steps-requires
-zero-steps-requires c κs = search needs
+zero-steps-requires c κs = tt
 
 enum-known-frame-4 : tie.Need-enum-known-frame-4
-enum-known-frame-4 c = search needs
+enum-known-frame-4 c = c .match .keys4
 
 returns-2 : tie.Need-returns-2
 unfolding requested

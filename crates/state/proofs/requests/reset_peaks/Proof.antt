@@ -2,7 +2,8 @@
 use mathlib.Core.Path.{_≡_}
 use mathlib.Core.Bool.{true}
 use lib.IntN.{ℤ}
-use borrow.Author.Needs.{needs}
+use mir.Facts.{toZ-ofZ}
+use borrow.Author.Needs.{sfits-of}
 use borrow.Author.Tests.{not-true, not-false}
 use Rattle.state.specs.declared.State.{State}
 use Rattle.state.specs.Request.{peaksReset}
@@ -25,7 +26,7 @@ returns c = rw (not-true (c .before .before .before .args .state .readings .any)
 returns-2 : tie.Need-returns-2
 returns-2 c =
     let e = c .before .before .before in
-    reset (e .before .before .before .args .state) (not-false _ (e .if1 .left)) (search needs) (search needs)
+    reset (e .before .before .before .args .state) (not-false _ (e .if1 .left)) (search (toZ-ofZ, sfits-of)) (search (toZ-ofZ, sfits-of))
 
 pub reset-peaks-spec : {M : Type 1} → statement M
 reset-peaks-spec = tie.close (tie.spec returns returns-2)

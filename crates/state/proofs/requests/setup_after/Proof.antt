@@ -4,7 +4,7 @@ use mathlib.Core.List.{[], _∷_}
 use lib.IntN.{ℤ}
 use types.Run.{OneOf, miss}
 use denote.Enum.Declared.{tagOf}
-use borrow.Author.Needs.{needs}
+use Rattle.integers.proofs.Machine.{held}
 use Rattle.state.specs.declared.Setup.{Setup}
 use Rattle.state.specs.declared.requests.Request.{Request}
 use Rattle.state.specs.declared.requests.Request.the-variants.{Refuse, Show, Flag, Zero, Rst, Snap, PeakReset}
@@ -28,13 +28,13 @@ others s Snap h = refl
 others s PeakReset h = refl
 
 enum-known-request : tie.Need-enum-known-request
-enum-known-request c = search needs
+enum-known-request c = c .match .keys1
 
 returns : tie.Need-returns
-returns c = zeroed _ (c .before .before .before .request .given .1) (search needs)
+returns c = zeroed (c .before .before .before .before .before .args .setup) (c .before .before .before .request .given .1) (held (c .before .before .known-told .given .0 .1) refl)
 
 returns-2 : tie.Need-returns-2
-returns-2 c = others _ _ (c .match .keys2)
+returns-2 c = others (c .before .args .setup) (c .before .args .request) (c .match .keys2)
 
 pub setup-after-spec : {M : Type 1} → statement M
 setup-after-spec = tie.close (tie.spec enum-known-request returns returns-2)

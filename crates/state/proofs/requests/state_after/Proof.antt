@@ -3,7 +3,6 @@ use mathlib.Core.Path.{_≡_, refl}
 use mathlib.Core.List.{[], _∷_}
 use types.Run.{OneOf, miss}
 use denote.Enum.Declared.{tagOf}
-use borrow.Author.Needs.{needs}
 use Rattle.state.specs.declared.State.{State}
 use Rattle.state.specs.declared.requests.Request.{Request}
 use Rattle.state.specs.declared.requests.Request.the-variants.{Refuse, Show, Flag, Zero, Rst, Snap, PeakReset}
@@ -26,25 +25,25 @@ others s Snap h = absurd (miss (0 ∷ 1 ∷ 3 ∷ []) 5 tt h)
 others s PeakReset h = absurd (miss (0 ∷ 1 ∷ 3 ∷ []) 6 tt h)
 
 enum-known-request : tie.Need-enum-known-request
-enum-known-request c = search needs
+enum-known-request c = c .match .keys1
 
 enum-told : tie.Need-enum-told
-enum-told c = search needs
+enum-told c = c .match .keys2
 
 fresh-requires : tie.Need-fresh-requires
-fresh-requires c κs = search needs
+fresh-requires c κs = tt
 
 enum-told-2 : tie.Need-enum-told-2
-enum-told-2 c = search needs
+enum-told-2 c = c .match .keys3
 
 snap-requires : tie.Need-snap-requires
-snap-requires c κs = search needs
+snap-requires c κs = tt
 
 enum-told-3 : tie.Need-enum-told-3
-enum-told-3 c = search needs
+enum-told-3 c = c .match .keys4
 
 reset-peaks-requires : tie.Need-reset-peaks-requires
-reset-peaks-requires c κs = search needs
+reset-peaks-requires c κs = tt
 
 returns : tie.Need-returns
 unfolding stateBy
