@@ -22,7 +22,7 @@ pub bit-or : (b m n : ℕ) → bitAt b (bitOr m n) ≡ max (bitAt b m) (bitAt b 
 unfolding bitAt
 bit-or b m n = rw (or-shr m n b) (low-or _ _)
 
-zero-bit : (b : ℕ) → bitAt b 0 ≡ 0
+pub zero-bit : (b : ℕ) → bitAt b 0 ≡ 0
 unfolding bitAt
 zero-bit b = rw (zero-div (2 ^ b))
 

@@ -1,7 +1,6 @@
--- One bit of an "and", and of any number. (`bit-or` is with STAT.) Assumes nothing.
+-- One bit of an "and", and of any number. (`bit-or` and `zero-bit` are with STAT.) Assumes nothing.
 use mathlib.Core.Path.{_≡_}
-use Prim.Native.Nat.{ℕ, _%_, _^_, _<_, min}
-use native.Mathlib.Nat.{zero-div}
+use Prim.Native.Nat.{ℕ, _%_, _<_, min}
 use native.Mathlib.Omega.{arith}
 use lib.Bits.{bitAnd, and-shr, and-step}
 use Rattle.compensation.specs.Stat.{bitAt}
@@ -16,7 +15,3 @@ bit-and b m n = rw (and-shr m n b) (low-and _ _)
 pub bit-small : (b n : ℕ) → bitAt b n < 2
 unfolding bitAt
 bit-small b n = omega arith
-
-pub zero-bit : (b : ℕ) → bitAt b 0 ≡ 0
-unfolding bitAt
-zero-bit b = rw (zero-div (2 ^ b))

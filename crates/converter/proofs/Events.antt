@@ -6,10 +6,10 @@ use mathlib.Core.List.{List, [], _∷_, _++_, List·Memᴰ, List·Memᴰ·cases-
 use native.Mathlib.Omega.{arith}
 use lib.Bits.{bitOr, bitAnd}
 use Rattle.compensation.specs.Stat.{bitAt, Raised}
-use Rattle.compensation.proofs.Flags.{bit-or}
+use Rattle.compensation.proofs.Flags.{bit-or, zero-bit}
 use Rattle.converter.specs.Log.{Event, raised, kept}
 use Rattle.converter.specs.History.{RaisedSince}
-use Rattle.converter.proofs.Bits.{bit-and, bit-small, zero-bit}
+use Rattle.converter.proofs.Bits.{bit-and, bit-small}
 
 kept-not-raised : {m n : ℕ} → kept m ≡ raised n → ⊥
 kept-not-raised e = let z : _≡_ {A = ℕ} 0 1 = cc in omega arith
