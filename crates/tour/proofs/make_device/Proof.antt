@@ -1,0 +1,117 @@
+-- `tour::make_device` meets its contract: the buffer is long enough, and its front is the default sheet. Assumes nothing.
+use mathlib.Core.Path.{_≡_, refl, sym, ap, _∙_, subst}
+use mathlib.Core.List.{List, _++_}
+use Prim.Native.Nat.{ℕ, _≤_}
+use native.Mathlib.Omega.{arith}
+use lib.ListN.{length, take, drop, length-append}
+use lib.Seq.{take-at, length-take-le}
+use Rattle.figures.specs.Default.{defaultSheet}
+use Rattle.figures.specs.declared.Calibration.{Calibration}
+use Rattle.figures.proofs.Default.{default-representable, default-acceptable}
+use Rattle.sheet.specs.Judge.{sheetLength}
+use Rattle.sheet.specs.Write.{sheetBytes, writeNumber, writtenOf, outAfter}
+use Rattle.sheet.specs.declared.Written.{Written}
+use Rattle.sheet.proofs.Accepted.{acceptable-figures, acceptable-fits}
+use Rattle.sheet.proofs.Theorems.{written-length}
+use borrow.Author.Needs.{needs}
+use Rattle.converter.specs.Reached.{Making}
+use Rattle.tour.proofs.make_device.Statement.{statement}
+use Rattle.tour.proofs.make_device.Tie as tie
+
+length-is : sheetLength defaultSheet ≡ 173
+unfolding defaultSheet
+length-is = refl
+
+bytes-are : length (sheetBytes defaultSheet) ≡ 173
+bytes-are = written-length defaultSheet default-representable (acceptable-fits defaultSheet default-representable default-acceptable) ∙ length-is
+
+-- the front of the buffer that was written
+record Front (w : Written) (after : List ℕ) : Type 0 where
+  pub fits : w .length ≤ length after
+  pub is : take (w .length) after ≡ sheetBytes defaultSheet
+
+accepted : (out : List ℕ) → length out ≡ 325 → writeNumber defaultSheet out ≡ 0
+unfolding writeNumber
+accepted out h = simp (acceptable-figures defaultSheet default-representable default-acceptable, h, length-is)
+
+front : {f : Calibration} (out after : List ℕ) {w : Written} → length out ≡ 325 → f ≡ defaultSheet → w ≡ writtenOf f out → after ≡ outAfter f out → Front w after
+unfolding writtenOf outAfter
+front out after {w} h d e a =
+    let n : w .length ≡ 173 = ap (λ (x : Written). x .length) e ∙ simp (d, accepted out h, length-is) in
+    let b : after ≡ sheetBytes defaultSheet ++ drop 173 out = a ∙ simp (d, accepted out h, length-is) in
+    record { fits = rw (n, b, length-append, bytes-are) (omega arith); is = rw (n, b) (take-at (sheetBytes defaultSheet) (drop 173 out) 173 bytes-are) }
+
+new-requires : tie.Need-new-requires
+new-requires c κs = search needs
+
+slice-aggregate-write : tie.Need-slice-aggregate-write
+slice-aggregate-write c = search needs
+
+write-requires : tie.Need-write-requires
+write-requires c κs = search needs
+
+slice-aggregate-print-call : tie.Need-slice-aggregate-print-call
+slice-aggregate-print-call c = search needs
+
+slice-aggregate-print-call-2 : tie.Need-slice-aggregate-print-call-2
+slice-aggregate-print-call-2 c = search needs
+
+print-call-requires : tie.Need-print-call-requires
+print-call-requires c κs = search needs
+
+print-length-requires : tie.Need-print-length-requires
+print-length-requires c κs = search needs
+
+end-line-requires : tie.Need-end-line-requires
+end-line-requires c κs = search needs
+
+module _ (c : tie.After-write) where
+  fronted : Front (c .write .result) (c .write .last .1 .0)
+  fronted = front _ _ refl (c .before .before .new .ensures) (c .write .ensures .0) (c .write .ensures .1)
+
+array-share-prefix-buffer : tie.Need-array-share-prefix-buffer
+array-share-prefix-buffer c = fronted (c .before .before .before .before .before .before) .fits
+
+slice-aggregate-make : tie.Need-slice-aggregate-make
+slice-aggregate-make c = let w = c .before .before .before .before .before .before .before in sym (length-take-le _ _ (fronted w .fits))
+
+make-requires : tie.Need-make-requires
+make-requires c κs = search needs
+
+slice-aggregate-print-call-3 : tie.Need-slice-aggregate-print-call-3
+slice-aggregate-print-call-3 c = search needs
+
+slice-aggregate-print-call-4 : tie.Need-slice-aggregate-print-call-4
+slice-aggregate-print-call-4 c = search needs
+
+print-call-requires-2 : tie.Need-print-call-requires-2
+print-call-requires-2 c κs = search needs
+
+end-line-requires-2 : tie.Need-end-line-requires-2
+end-line-requires-2 c κs = search needs
+
+returns : tie.Need-returns
+returns c =
+    let m = c .before .before .before .before in
+    subst (λ (s : List ℕ). Making s 52 (m .make .result)) (fronted (m .before .before .before .before .before .before .before .before) .is) (m .make .ensures)
+
+pub make-device-spec : {M : Type 1} → statement M
+make-device-spec =
+    tie.close
+    (tie.spec
+    new-requires
+    slice-aggregate-write
+    write-requires
+    slice-aggregate-print-call
+    slice-aggregate-print-call-2
+    print-call-requires
+    print-length-requires
+    end-line-requires
+    array-share-prefix-buffer
+    slice-aggregate-make
+    make-requires
+    slice-aggregate-print-call-3
+    slice-aggregate-print-call-4
+    print-call-requires-2
+    end-line-requires-2
+    returns)

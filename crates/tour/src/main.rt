@@ -1,0 +1,135 @@
+// The library by example: a sheet is written, a device is made of it, takes two readings, serves frames and gives reports. Each call
+// prints a line: what was called, its number, and what it gave. The device that a call gives back is handed to the next.
+ghost use Rattle.figures.specs.Default.{defaultSheet};
+ghost use Rattle.sheet.specs.Write.{sheetBytes};
+ghost use Rattle.converter.specs.Call.{reading, frame};
+ghost use Rattle.converter.specs.Reached.{Reached, Making};
+ghost use Rattle.tour.specs.Next.{Next};
+
+mod lines;
+
+use converter::Device;
+use converter::Outcome;
+use figures::Calibration;
+
+fn main() {
+    let made = make_device();
+    if made.number != 0 {
+        return;
+    }
+    let mut device = take_readings(made.device);
+    device = read_values(device);
+    device = write_zero(device);
+    print_report(b"with a reading", device);
+    restart(device);
+}
+
+// A device of the default sheet, at station 52. The buffer has room for the longest sheet.
+fn make_device() -> Outcome
+    ensures { λ r. ⌜ Making (sheetBytes defaultSheet) 52 r ⌝ }
+{
+    let mut buffer = [0u8; 325];
+    let written = sheet::write(Calibration::new(), &mut buffer);
+    let length = written.length;
+    lines::print_call(b"sheet::write", b"default figures", written.number);
+    lines::print_length(length);
+    lines::end_line();
+    let made = Device::make(&buffer[..length], 52);
+    lines::print_call(b"Device::make", b"station 52", made.number);
+    lines::end_line();
+    made
+}
+
+// 100 % at 20 °C, in steps; then a load below the range of the cell, which FLAG latches.
+fn take_readings(device: Device) -> Device
+    requires { ⌜ Reached device ⌝ }
+    ensures { λ r. ⌜ Reached r ⌝ }
+{
+    let loaded = take_reading(device, b"100 %", 6_553_600, 1_310_720, 0);
+    take_reading(loaded, b"below the range", -9_830_401, 1_310_720, 0)
+}
+
+// A write of SNAP (register 103), and reads of SYS (10), PEAK (24), TROF (25), SYSN (23) and FLAG (14). A frame is station 52,
+// function, wire address (twice the register), quantity 2, for a write the byte count 4 and the value, and the checksum.
+fn read_values(device: Device) -> Device
+    requires { ⌜ Reached device ⌝ }
+    ensures { λ r. ⌜ Reached r ⌝ }
+{
+    let mut next = send(
+        device,
+        b"write SNAP",
+        b"\x34\x10\x00\xce\x00\x02\x04\x00\x00\x00\x00\x90\xbf",
+    );
+    next = send(next, b"read SYS", b"\x34\x03\x00\x14\x00\x02\x81\xaa");
+    next = send(next, b"read PEAK", b"\x34\x03\x00\x30\x00\x02\xc1\xa1");
+    next = send(next, b"read TROF", b"\x34\x03\x00\x32\x00\x02\x60\x61");
+    next = send(next, b"read SYSN", b"\x34\x03\x00\x2e\x00\x02\xa1\xa7");
+    send(next, b"read FLAG", b"\x34\x03\x00\x1c\x00\x02\x00\x68")
+}
+
+// SZ (22) becomes 2.5, the float 40200000, whose words are swapped on the wire. Register 7 is not listed.
+fn write_zero(device: Device) -> Device
+    requires { ⌜ Reached device ⌝ }
+    ensures { λ r. ⌜ Reached r ⌝ }
+{
+    let mut next = send(
+        device,
+        b"write SZ",
+        b"\x34\x10\x00\x2c\x00\x02\x04\x00\x00\x40\x20\x2f\x36",
+    );
+    next = send(next, b"read SZ", b"\x34\x03\x00\x2c\x00\x02\x00\x67");
+    send(next, b"read 7", b"\x34\x03\x00\x0e\x00\x02\xa0\x6d")
+}
+
+// RST (100) forgets the readings: no report until the next one, and FLAG says REBOOT alone.
+fn restart(device: Device) -> Device
+    requires { ⌜ Reached device ⌝ }
+    ensures { λ r. ⌜ Reached r ⌝ }
+{
+    let next = send(
+        device,
+        b"write RST",
+        b"\x34\x10\x00\xc8\x00\x02\x04\x00\x00\x00\x00\x10\x95",
+    );
+    print_report(b"after RST", next);
+    send(next, b"read FLAG", b"\x34\x03\x00\x1c\x00\x02\x00\x68")
+}
+
+// A reading of ELEC and TEMP, in steps, and the integrity byte.
+fn take_reading(device: Device, what: &[u8], elec: i64, temp: i64, integrity: u8) -> Device
+    requires { ⌜ Reached device ⌝ }
+    ensures { λ r. ⌜ Next device (reading elec temp integrity) r ⌝ }
+{
+    let outcome = device.reading(elec, temp, integrity);
+    lines::print_call(b"reading", what, outcome.number);
+    lines::end_line();
+    outcome.device
+}
+
+// A frame, with a buffer of 16 bytes lent for its reply.
+fn send(device: Device, what: &[u8], sent: &[u8]) -> Device
+    requires { ⌜ Reached device ⌝ }
+    ensures { λ r. ⌜ Next device (frame (now (sent .entry)) 16) r ⌝ }
+{
+    let mut reply = [0u8; 16];
+    let served = device.frame(sent, &mut reply);
+    let length = served.length;
+    lines::print_call(b"frame", what, served.number);
+    lines::print_bytes(&reply[..length]);
+    lines::end_line();
+    served.device
+}
+
+// SYS, PEAK, TROF and CELL. A report gives no device: it changes none.
+fn print_report(what: &[u8], device: Device)
+    requires { ⌜ Reached device ⌝ }
+{
+    let reported = device.report();
+    let report = reported.report;
+    lines::print_call(b"report", what, reported.number);
+    lines::print_float(report.sys);
+    lines::print_float(report.peak);
+    lines::print_float(report.trof);
+    lines::print_float(report.cell);
+    lines::end_line();
+}
