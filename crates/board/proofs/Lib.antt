@@ -1,0 +1,3 @@
+mod Kept
+mod Outcome
+mod Served
