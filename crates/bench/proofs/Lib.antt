@@ -1,0 +1,4 @@
+mod Digits
+mod Puts
+mod Lines
+pub mod Chunks
