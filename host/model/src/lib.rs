@@ -1,0 +1,87 @@
+//! The load cell converter of paper 01 in plain Rust, written from the paper alone.
+//!
+//! Whole numbers are steps (1/65,536 of a unit) and gains (1/2^28) in `i64`; the widest product,
+//! (CELL - SOFS) x SGAI, is at most 4,259,840,000 x 2^31, which fits. Nothing here uses the heap.
+
+pub mod bench;
+mod bus;
+mod device;
+pub mod sheet;
+
+pub use bus::crc16;
+pub use device::{Device, Reading};
+pub use sheet::Figures;
+
+/// Why a call was turned down, by the paper's numbers.
+#[derive(Clone, Copy, Debug, PartialEq, Eq)]
+#[repr(u8)]
+pub enum Refusal {
+    ShortSheet = 1,
+    WrongCount = 2,
+    Figure = 3,
+    Order = 4,
+    TooSteep = 5,
+    Crossed = 6,
+    Trailing = 7,
+    Station = 8,
+    BadReading = 9,
+    NoReading = 10,
+    NoSnapshot = 11,
+    ShortBuffer = 12,
+    NotForUs = 13,
+    Function = 14,
+    Address = 15,
+    Value = 16,
+}
+
+pub type Result<T> = core::result::Result<T, Refusal>;
+
+/// 0 for an accepted call, else the number of the refusal.
+pub fn number<T>(result: &Result<T>) -> u8 {
+    match result {
+        Ok(_) => 0,
+        Err(refusal) => *refusal as u8,
+    }
+}
+
+/// What a board offers. The implementor is the device record; its default is the record of zeros.
+pub trait Converter: Clone + PartialEq + Default {
+    /// A making into this record; a refused one leaves zeros.
+    fn make(&mut self, sheet: &[u8], station: u8) -> u8;
+    fn reading(&mut self, elec: i64, temp: i64, integrity: u8) -> u8;
+    /// The number and the bits of SYS, PEAK, TROF and CELL.
+    fn report(&mut self) -> (u8, [u32; 4]);
+    /// The number and the length replied.
+    fn frame(&mut self, frame: &[u8], reply: &mut [u8]) -> (u8, usize);
+    /// The record in the model's form; what the paper leaves free is left out.
+    fn state(&self) -> Device;
+}
+
+impl Converter for Device {
+    fn make(&mut self, sheet: &[u8], station: u8) -> u8 {
+        let made = Device::new(sheet, station);
+        let number = number(&made);
+        *self = made.unwrap_or_default();
+        number
+    }
+
+    fn reading(&mut self, elec: i64, temp: i64, integrity: u8) -> u8 {
+        number(&self.take(elec, temp, integrity))
+    }
+
+    fn report(&mut self) -> (u8, [u32; 4]) {
+        let report = Device::report(self);
+        (number(&report), report.unwrap_or_default().map(f32::to_bits))
+    }
+
+    fn frame(&mut self, frame: &[u8], reply: &mut [u8]) -> (u8, usize) {
+        self.answer(frame, reply)
+    }
+
+    fn state(&self) -> Device {
+        *self
+    }
+}
+
+#[cfg(test)]
+mod tests;

@@ -1,0 +1,105 @@
+//! The proved library, linked as libboard.a: the declarations of API.md and the trait over them.
+//! `bool` is declared as a byte here, so that no byte the archive stores can be undefined.
+
+use model::sheet::{LinearityPoint, TemperaturePoint};
+use model::{Converter, Figures, Reading};
+
+macro_rules! record {
+    ($name:ident { $($field:ident: $kind:ty),* $(,)? }) => {
+        #[derive(Clone, Copy, Debug, Default, PartialEq)]
+        #[repr(C)]
+        pub struct $name { $(pub $field: $kind),* }
+    };
+}
+
+record!(Cell { cofs: i64, cgai: i64, cmin: i64, cmax: i64 });
+record!(TPoint { ct: i64, cto: i64, ctg: i64 });
+record!(Temperature { ctn: u8, points: [TPoint; 5] });
+record!(LPoint { clx: i64, clk: i64 });
+record!(Linearity { cln: u8, points: [LPoint; 7] });
+record!(System { sofs: i64, sgai: i64, smin: i64, smax: i64, sz: i64 });
+record!(Filter { fflv: i64, ffst: i64 });
+record!(Calibration { cell: Cell, temperature: Temperature, linearity: Linearity, system: System, filter: Filter });
+record!(Values { craw: i64, cell: i64, sraw: i64, sys: i64, stat: u16 });
+record!(Setup { figures: Calibration, station: u8 });
+record!(Readings { any: u8, elec: i64, temp: i64, values: Values, peak: i64, trof: i64 });
+record!(Snapshot { taken: u8, sysn: i64 });
+record!(State { readings: Readings, flag: u16, snapshot: Snapshot });
+record!(Device { setup: Setup, state: State });
+record!(Report { sys: f32, peak: f32, trof: f32, cell: f32 });
+record!(Reported { number: u8, report: Report });
+record!(Answered { number: u8, length: usize });
+
+extern "C" {
+    fn converter_make(device: *mut Device, sheet: *const u8, n: usize, station: u8) -> u8;
+    fn converter_reading(device: *mut Device, elec: i64, temp: i64, integrity: u8) -> u8;
+    fn converter_report(device: *mut Device) -> Reported;
+    fn converter_frame(device: *mut Device, frame: *const u8, n: usize, reply: *mut u8, room: usize) -> Answered;
+}
+
+// Each call lends live Rust memory with its true length for the time of the call only.
+impl Converter for Device {
+    fn make(&mut self, sheet: &[u8], station: u8) -> u8 {
+        unsafe { converter_make(self, sheet.as_ptr(), sheet.len(), station) }
+    }
+
+    fn reading(&mut self, elec: i64, temp: i64, integrity: u8) -> u8 {
+        unsafe { converter_reading(self, elec, temp, integrity) }
+    }
+
+    fn report(&mut self) -> (u8, [u32; 4]) {
+        let Reported { number, report: r } = unsafe { converter_report(self) };
+        (number, [r.sys, r.peak, r.trof, r.cell].map(f32::to_bits))
+    }
+
+    fn frame(&mut self, frame: &[u8], reply: &mut [u8]) -> (u8, usize) {
+        let answered = unsafe { converter_frame(self, frame.as_ptr(), frame.len(), reply.as_mut_ptr(), reply.len()) };
+        (answered.number, answered.length)
+    }
+
+    fn state(&self) -> model::Device {
+        let Setup { figures, station } = self.setup;
+        let State { readings: r, flag, snapshot } = self.state;
+        let v = r.values;
+        let reading = Reading {
+            elec: r.elec,
+            temp: r.temp,
+            craw: v.craw,
+            cell: v.cell,
+            sraw: v.sraw,
+            sys: v.sys,
+            stat: v.stat,
+            peak: r.peak,
+            trof: r.trof,
+        };
+        model::Device {
+            station,
+            figures: figures.into(),
+            flag,
+            last: (r.any != 0).then_some(reading),
+            snapshot: (snapshot.taken != 0).then_some(snapshot.sysn),
+        }
+    }
+}
+
+impl From<Calibration> for Figures {
+    fn from(c: Calibration) -> Figures {
+        Figures {
+            cofs: c.cell.cofs,
+            cgai: c.cell.cgai,
+            cmin: c.cell.cmin,
+            cmax: c.cell.cmax,
+            ctn: c.temperature.ctn,
+            temperature: c.temperature.points.map(|TPoint { ct, cto, ctg }| TemperaturePoint { ct, cto, ctg }),
+            cln: c.linearity.cln,
+            linearity: c.linearity.points.map(|LPoint { clx, clk }| LinearityPoint { clx, clk }),
+            sofs: c.system.sofs,
+            sgai: c.system.sgai,
+            smin: c.system.smin,
+            smax: c.system.smax,
+            sz: c.system.sz,
+            fflv: c.filter.fflv,
+            ffst: c.filter.ffst,
+        }
+    }
+}

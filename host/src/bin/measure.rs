@@ -1,0 +1,111 @@
+//! measure: ns per call for each kind of call, and the sizes of the records.
+//! measure KIND N [model|archive]: runs one kind N times, for instruction counts:
+//!   valgrind --tool=callgrind measure full 20000 model, less the same with 10000, by 10000.
+
+use host::generate::{sheet, Rng};
+use host::{read_frame, write_frame, Converter, Other, WITH_ARCHIVE};
+use model::sheet::{most, LinearityPoint, TemperaturePoint};
+use model::Figures;
+use std::hint::black_box;
+use std::{env, mem::size_of, process::ExitCode, time::Instant};
+
+const KINDS: [(&str, &str); 4] = [
+    ("default", "reading, default sheet"),
+    ("full", "reading, full tables, filter on"),
+    ("read", "read frame"),
+    ("write", "write frame (SZ)"),
+];
+const STATION: u8 = 52;
+
+/// Five and seven points and a filter that smooths every reading.
+fn full() -> Figures {
+    let mut f = Figures { ctn: 5, cln: 7, cofs: 12_345, cgai: 5 << 28, ..Figures::standard() };
+    (f.cmin, f.cmax, f.smin, f.smax) = (-most::CELL, most::CELL, -most::SYSTEM, most::SYSTEM);
+    for (i, n) in (0..5).enumerate() {
+        f.temperature[i] = TemperaturePoint { ct: (n - 1) * 1_310_720, cto: 137 * n, ctg: 2_684 * (n - 2) };
+    }
+    for (i, n) in (0..7).enumerate() {
+        f.linearity[i] = LinearityPoint { clx: (n - 3) * 20_000_000, clk: 1_003 * n * n };
+    }
+    (f.sofs, f.sgai, f.sz, f.fflv, f.ffst) = (777, 3 << 27, 4_321, most::FFLV, 10);
+    f
+}
+
+/// The seconds that n calls of a kind took.
+fn run<C: Converter>(kind: &str, n: usize) -> f64 {
+    let mut rng = Rng::new(1);
+    let figures = if kind == "full" { full() } else { Figures::standard() };
+    let mut device = C::default();
+    assert_eq!(device.make(&sheet(&figures), STATION), 0);
+    let readings: Vec<(i64, i64)> =
+        (0..1_024).map(|_| (rng.range(-9_000_000, 9_000_000), rng.range(-1_310_720, 3_932_160))).collect();
+    let frames: Vec<Vec<u8>> = (0..1_024_u16)
+        .map(|i| match kind {
+            "write" => write_frame(STATION, 44, (f32::from(i) / 7.0 - 70.0).to_bits()),
+            _ => read_frame(STATION, 2 * [6, 10, 11, 13, 14, 22, 24, 25][usize::from(i % 8)]),
+        })
+        .collect();
+    assert_eq!(device.reading(6_553_600, 1_310_720, 0), 0);
+    let mut reply = [0; 9];
+    let mut refused = 0;
+    let start = Instant::now();
+    if matches!(kind, "read" | "write") {
+        for frame in frames.iter().cycle().take(n) {
+            refused += u32::from(device.frame(black_box(frame), &mut reply).0);
+            black_box(&reply);
+        }
+    } else {
+        for &(elec, temp) in readings.iter().cycle().take(n) {
+            refused += u32::from(device.reading(black_box(elec), black_box(temp), 0));
+        }
+    }
+    let seconds = start.elapsed().as_secs_f64();
+    black_box(&device);
+    assert_eq!(refused, 0);
+    seconds
+}
+
+/// ns per call: the least and the middle of 41 short passes, the two taking turns.
+fn passes(kind: &str) -> [(f64, f64); 2] {
+    const N: usize = 10_240;
+    let ns = |seconds: f64| seconds * 1e9 / N as f64;
+    let mut both = [Vec::new(), Vec::new()];
+    for _ in 0..41 {
+        both[0].push(ns(run::<model::Device>(kind, N)));
+        both[1].push(ns(run::<Other>(kind, N)));
+    }
+    both.map(|mut pass| {
+        pass.sort_by(f64::total_cmp);
+        (pass[0], pass[20])
+    })
+}
+
+fn main() -> ExitCode {
+    let arguments: Vec<String> = env::args().skip(1).collect();
+    if let [kind, n, which @ ..] = &arguments[..] {
+        let n = n.parse().unwrap_or(0);
+        let archive = which.first().is_some_and(|w| w == "archive");
+        if n == 0 || !KINDS.iter().any(|(name, _)| name == kind) || (archive && !WITH_ARCHIVE) {
+            eprintln!("measure [default|full|read|write N [model|archive]] (archive: only if linked)");
+            return ExitCode::FAILURE;
+        }
+        let seconds = if archive { run::<Other>(kind, n) } else { run::<model::Device>(kind, n) };
+        println!("{kind}: {n} calls in {:.6} s", seconds);
+        return ExitCode::SUCCESS;
+    }
+    println!("ns per call, least (middle) of 41 passes");
+    for (kind, name) in KINDS {
+        let [(model, middle), (archive, archive_middle)] = passes(kind);
+        print!("{name:32} model {model:6.1} ({middle:6.1})");
+        if WITH_ARCHIVE {
+            print!("   archive {archive:6.1} ({archive_middle:6.1})   ratio {:.2}", archive / model);
+        }
+        println!();
+    }
+    print!("{:32} model {:6}", "bytes of the record", size_of::<model::Device>());
+    if WITH_ARCHIVE {
+        print!("            archive {:6}", size_of::<Other>());
+    }
+    println!();
+    ExitCode::SUCCESS
+}

@@ -1,0 +1,322 @@
+//! Seeded random and adversarial calls. The model's state is looked at only to aim at the edges.
+
+use crate::{read_frame, sealed, write_frame, REGISTERS};
+use model::sheet::{self, most, LONGEST};
+use model::{Device, Figures};
+
+/// xorshift64*.
+pub struct Rng(u64);
+
+impl Rng {
+    pub fn new(seed: u64) -> Rng {
+        let mut rng = Rng(seed.wrapping_mul(0x9e37_79b9_7f4a_7c15) | 1);
+        for _ in 0..8 {
+            rng.bits();
+        }
+        rng
+    }
+
+    pub fn bits(&mut self) -> u64 {
+        self.0 ^= self.0 >> 12;
+        self.0 ^= self.0 << 25;
+        self.0 ^= self.0 >> 27;
+        self.0.wrapping_mul(0x2545_f491_4f6c_dd1d)
+    }
+
+    /// From 0 up to, not including, n.
+    pub fn below(&mut self, n: u64) -> u64 {
+        (self.bits() >> 11) % n
+    }
+
+    pub fn one_in(&mut self, n: u64) -> bool {
+        self.below(n) == 0
+    }
+
+    pub fn range(&mut self, least: i64, most: i64) -> i64 {
+        least + self.below((most - least + 1) as u64) as i64
+    }
+
+    pub fn pick<T: Copy>(&mut self, from: &[T]) -> T {
+        from[self.below(from.len() as u64) as usize]
+    }
+
+    /// Within +-most, often at an end or small.
+    fn near(&mut self, most: i64) -> i64 {
+        let sign = self.pick(&[1, -1]);
+        match self.below(6) {
+            0 => sign * most,
+            1 => sign * (most - self.range(0, 2).min(most)),
+            2 => self.range(-3, 3).clamp(-most, most),
+            3 => self.range(-most, most) >> self.below(24),
+            _ => self.range(-most, most),
+        }
+    }
+
+    /// n strictly rising numbers within +-most.
+    fn rising(&mut self, n: usize, most: i64) -> Vec<i64> {
+        let gap = self.pick(&[1, 4, 1_000, most / 64, most / n as i64]);
+        let mut xs = vec![self.near(most)];
+        while xs.len() < n {
+            xs.push(xs[xs.len() - 1] + self.range(1, gap));
+        }
+        let over = (xs[n - 1] - most).max(0);
+        xs.iter().map(|x| x - over).collect()
+    }
+
+    /// A lower and an upper limit.
+    fn limits(&mut self, most: i64) -> (i64, i64) {
+        match self.below(3) {
+            0 => (-most, most),
+            1 => (-self.range(1, most), self.range(0, most)),
+            _ => {
+                let pair = self.rising(2, most);
+                (pair[0], pair[1])
+            }
+        }
+    }
+
+    /// A gain: halves, which make ties, or anything up to the most.
+    fn gain(&mut self, most: i64) -> i64 {
+        match self.below(4) {
+            0 => self.near(most),
+            1 => self.range(-16, 16) << 27,
+            _ => self.range(-most, most) >> self.below(8),
+        }
+    }
+}
+
+/// Figures that a sheet accepts.
+pub fn figures(rng: &mut Rng) -> Figures {
+    let mut f = Figures::standard();
+    if !rng.one_in(8) {
+        f.ctn = rng.range(2, 5) as u8;
+        f.cln = rng.range(2, 7) as u8;
+        f.cofs = rng.near(most::COFS);
+        f.cgai = rng.gain(most::CGAI);
+        (f.cmin, f.cmax) = rng.limits(most::CELL);
+        for (i, ct) in rng.rising(f.ctn.into(), most::CT).into_iter().enumerate() {
+            f.temperature[i].ct = ct;
+            f.temperature[i].cto = rng.near(most::CTO);
+            f.temperature[i].ctg = if rng.one_in(2) { rng.near(most::CTG) } else { rng.range(-1, 1) << 24 };
+        }
+        for (i, clx) in rng.rising(f.cln.into(), most::CELL).into_iter().enumerate() {
+            f.linearity[i].clx = clx;
+            f.linearity[i].clk = if i == 0 {
+                rng.near(most::CLK)
+            } else {
+                let before = f.linearity[i - 1];
+                (before.clk + rng.near((clx - before.clx) / 4)).clamp(-most::CLK, most::CLK)
+            };
+        }
+        f.sofs = rng.near(most::SYSTEM) >> rng.pick(&[0, 0, 6]);
+        f.sgai = rng.gain(most::SGAI);
+        (f.smin, f.smax) = rng.limits(most::SYSTEM);
+        f.sz = rng.near(most::SYSTEM);
+    }
+    if !rng.one_in(3) {
+        f.fflv = rng.near(most::FFLV).abs();
+        f.ffst = [0, 1, 2, 3, 4, 7, 1_000, rng.range(0, 1_000)][rng.below(8) as usize];
+    }
+    f
+}
+
+pub fn sheet(f: &Figures) -> Vec<u8> {
+    let mut out = [0; LONGEST];
+    let length = sheet::write(f, &mut out).expect("acceptable figures");
+    out[..length].to_vec()
+}
+
+/// Where the counts stand, and where each figure stands with its largest magnitude.
+fn layout(f: &Figures) -> (Vec<usize>, Vec<(usize, i64)>) {
+    let sections: [(&[i64], u8); 5] = [
+        (&[most::COFS, most::CGAI, most::CELL, most::CELL], 1),
+        (&[most::CT, most::CTO, most::CTG], f.ctn),
+        (&[most::CELL, most::CLK], f.cln),
+        (&[most::SYSTEM, most::SGAI, most::SYSTEM, most::SYSTEM, most::SYSTEM], 1),
+        (&[most::FFLV, most::FFST], 1),
+    ];
+    let (mut at, mut counts, mut places) = (0, Vec::new(), Vec::new());
+    for (figures, times) in sections {
+        counts.push(at);
+        at += 1;
+        for most in figures.repeat(times.into()) {
+            places.push((at, most));
+            at += 8;
+        }
+    }
+    (counts, places)
+}
+
+/// Spoil a good sheet in one to three places close to each other. Some stay good.
+fn damage(rng: &mut Rng, sheet: &mut Vec<u8>, f: &Figures) {
+    let (counts, places) = layout(f);
+    let first = rng.below(places.len() as u64) as usize;
+    for _ in 0..rng.range(1, 3) {
+        let (at, most) = places[(first + rng.below(3) as usize) % places.len()];
+        let figure = i64::from_le_bytes(sheet[at..at + 8].try_into().expect("eight bytes"));
+        let spoiled = match rng.below(8) {
+            0 => {
+                sheet[rng.pick(&counts)] = rng.pick(&[0, 1, 2, 3, 4, 5, 6, 7, 8, 200, 255]);
+                continue;
+            }
+            1 => figure ^ 1 << rng.below(64),
+            2 => figure.wrapping_add(rng.pick(&[1, -1])),
+            3 | 4 => rng.pick(&[most + 1, -most - 1, -1, i64::MIN, i64::MAX]),
+            5 => rng.pick(&[most, -most, 0]),
+            _ => {
+                // a neighbour's figure: of the same kind it breaks the order
+                let before = places[first.saturating_sub(rng.below(4) as usize)].0;
+                i64::from_le_bytes(sheet[before..before + 8].try_into().expect("eight bytes"))
+            }
+        };
+        sheet[at..at + 8].copy_from_slice(&spoiled.to_le_bytes());
+    }
+    match rng.below(6) {
+        0 => sheet.truncate(rng.below(sheet.len() as u64 + 1) as usize),
+        1 => sheet.resize(sheet.len() + rng.range(1, 20) as usize, rng.bits() as u8),
+        _ => {}
+    }
+}
+
+/// The bits of a float that is apt to go wrong.
+pub fn float_bits(rng: &mut Rng) -> u32 {
+    let whole = |n: u64| (n as f32).to_bits();
+    let bits = match rng.below(8) {
+        0 => {
+            rng.pick(&[0, 1, 0x007f_ffff, 0x0080_0000, 0x7f7f_ffff, 0x7f80_0000, 0x7f80_0001, 0x7fc0_0000, 0x7fff_ffff])
+        }
+        1 => 32_000_f32.to_bits(),
+        2 => whole(65_535 ^ 1 << rng.below(16)),
+        3 => whole(rng.below(65_540)),
+        4 => whole(1 << rng.below(17)),
+        // halves of a step, and floats about a step
+        5 => ((2 * (rng.below(1 << 23) >> rng.below(24)) + 1) as f32 / 131_072.0).to_bits(),
+        6 => (rng.range(100, 142) as u32) << 23 | rng.below(1 << 23) as u32,
+        _ => rng.bits() as u32,
+    };
+    let neighbour = bits.wrapping_add(rng.pick(&[0, 0, 0, 1, u32::MAX]));
+    neighbour ^ rng.pick(&[0, 0, 0x8000_0000])
+}
+
+pub enum Call {
+    Make(Vec<u8>, u8),
+    Reading(i64, i64, u8),
+    Report,
+    /// A frame and the room for its reply.
+    Frame(Vec<u8>, usize),
+}
+
+/// A call for a device in this state; `quiet` keeps to long histories of readings.
+pub fn call(rng: &mut Rng, d: &Device, quiet: bool) -> Call {
+    match rng.below(if quiet { 60 } else { 100 }) {
+        0..=54 => reading(rng, d),
+        55 => Call::Report,
+        56..=59 if quiet => {
+            let register = rng.pick(&[22, 103, 104, 14]);
+            Call::Frame(write_frame(d.station, 2 * register, float_bits(rng)), 9)
+        }
+        56..=91 => frame(rng, d),
+        92 => Call::Report,
+        _ => make(rng),
+    }
+}
+
+pub fn make(rng: &mut Rng) -> Call {
+    let f = figures(rng);
+    let mut bytes = sheet(&f);
+    match rng.below(12) {
+        0 | 1 => {}
+        2 => bytes.truncate(rng.below(bytes.len() as u64 + 1) as usize),
+        3 => bytes.resize(bytes.len() + rng.range(1, 20) as usize, rng.bits() as u8),
+        _ => damage(rng, &mut bytes, &f),
+    }
+    Call::Make(bytes, if rng.one_in(6) { rng.pick(&[0, 1, 247, 248, 255]) } else { rng.range(1, 247) as u8 })
+}
+
+fn reading(rng: &mut Rng, d: &Device) -> Call {
+    let f = &d.figures;
+    let by_gain =
+        |value: i64, gain: i64| if gain == 0 { 0 } else { ((value as i128 * (1 << 28)) / gain as i128) as i64 };
+    let any_temp = rng.near(13_107_200);
+    let point = f.temperature[rng.below(u64::from(f.ctn.max(1))) as usize];
+    let temp = match rng.below(6) {
+        0 => rng.pick(&[-3_276_800, 5_898_240]) + rng.range(-1, 1),
+        1 => point.ct + rng.range(-2, 2),
+        2 => f.temperature[0].ct + rng.below((f.temperature[1].ct - f.temperature[0].ct) as u64 + 1) as i64,
+        3 if rng.one_in(10) => rng.pick(&[-13_107_201, 13_107_201, i64::MIN, i64::MAX]),
+        _ => any_temp,
+    };
+    let limit = f.linearity[rng.below(u64::from(f.cln.max(1))) as usize].clx;
+    let cell = match rng.below(3) {
+        0 => rng.pick(&[f.cmin, f.cmax]),
+        1 => f.sofs + by_gain(rng.pick(&[f.smin, f.smax]), f.sgai),
+        _ => limit,
+    };
+    let aimed = (f.cofs + point.cto + by_gain(cell, f.cgai)).saturating_add(rng.range(-3, 3));
+    let elec = match (rng.below(8), &d.last) {
+        (0, _) => rng.pick(&[-7_864_320, 7_864_320]) + rng.range(-1, 1),
+        (1 | 2, _) => aimed.clamp(-19_660_800, 19_660_800),
+        (3, Some(last)) => last.elec + rng.pick(&[f.fflv, -f.fflv]) + rng.range(-1, 1),
+        (4, Some(last)) => last.elec + rng.pick(&[1, -1, 3]) * (f.ffst / 2) + rng.range(-1, 1),
+        (5, Some(last)) => last.elec + (rng.near(19_660_800) >> rng.below(20)),
+        (6, _) if rng.one_in(10) => rng.pick(&[-19_660_801, 19_660_801, i64::MIN, i64::MAX]),
+        _ => rng.near(19_660_800),
+    };
+    Call::Reading(elec, temp, if rng.one_in(12) { rng.pick(&[1, 1, 1, 2, 255]) } else { 0 })
+}
+
+fn frame(rng: &mut Rng, d: &Device) -> Call {
+    let station = match rng.below(12) {
+        0 => 0,
+        1 if rng.one_in(2) => rng.bits() as u8,
+        _ => d.station,
+    };
+    let write = rng.one_in(2);
+    let mut register = rng.pick(&REGISTERS);
+    if write && rng.one_in(2) {
+        register = rng.pick(&[14, 22, 22, 103, 104]);
+    }
+    if register == 100 && rng.one_in(2) {
+        register = 14;
+    }
+    let address = match rng.below(12) {
+        0 => (2 * register).wrapping_add(rng.pick(&[1, 2, 256, u16::MAX, u16::MAX - 1])),
+        1 if rng.one_in(2) => rng.bits() as u16,
+        _ => 2 * register,
+    };
+    let mut bytes = if write { write_frame(station, address, float_bits(rng)) } else { read_frame(station, address) };
+    if rng.one_in(4) {
+        bytes.truncate(bytes.len() - 2);
+        for _ in 0..rng.range(1, 2) {
+            match rng.below(5) {
+                0 => bytes[1] = rng.pick(&[0, 1, 2, 3, 4, 6, 15, 16, 17, 128, 131, 144, 255]),
+                1 => bytes[5] = rng.pick(&[0, 1, 2, 3, 4]),
+                2 => bytes[4] = rng.pick(&[0, 1, 2, 255]),
+                3 if bytes.len() > 6 => bytes[6] = rng.pick(&[0, 2, 3, 4, 5, 8, 255]),
+                3 => bytes[1] = 16,
+                _ => {
+                    let length = [rng.range(2, 14), rng.range(6, 8), rng.range(252, 260)][rng.below(3) as usize];
+                    bytes.resize((length as usize).max(bytes.len().min(6)), rng.bits() as u8);
+                }
+            }
+        }
+        if rng.one_in(10) {
+            bytes.truncate(2);
+        }
+        bytes = sealed(bytes);
+    }
+    match rng.below(40) {
+        0 => {
+            let at = rng.below(bytes.len() as u64) as usize;
+            bytes[at] ^= 1 << rng.below(8);
+        }
+        1 => {
+            let end = bytes.len();
+            bytes.swap(end - 2, end - 1);
+        }
+        2 => bytes.truncate(rng.below(9) as usize),
+        _ => {}
+    }
+    let room = if rng.one_in(8) { [rng.range(0, 20), 8, 256][rng.below(3) as usize] as usize } else { 9 };
+    Call::Frame(bytes, room)
+}

@@ -1,0 +1,41 @@
+//! Host tools: replay, comparison and measurement of converters behind `model::Converter`.
+
+#[cfg(feature = "archive")]
+pub mod archive;
+pub mod generate;
+
+pub use model::Converter;
+
+/// The implementation set beside the model: the archive, or without it the model itself.
+#[cfg(feature = "archive")]
+pub use archive::Device as Other;
+#[cfg(not(feature = "archive"))]
+pub use model::Device as Other;
+
+pub const WITH_ARCHIVE: bool = cfg!(feature = "archive");
+
+/// What a lent buffer holds before a call.
+pub const FILL: u8 = 0xa5;
+
+/// The register numbers of paper 01.
+pub const REGISTERS: [u16; 16] = [6, 9, 10, 11, 12, 13, 14, 15, 16, 22, 23, 24, 25, 100, 103, 104];
+
+/// Append the checksum, low byte first.
+pub fn sealed(mut frame: Vec<u8>) -> Vec<u8> {
+    let checksum = model::crc16(&frame);
+    frame.extend(checksum.to_le_bytes());
+    frame
+}
+
+/// A good read of a wire address.
+pub fn read_frame(station: u8, address: u16) -> Vec<u8> {
+    let [high, low] = address.to_be_bytes();
+    sealed(vec![station, 3, high, low, 0, 2])
+}
+
+/// A good write of a float's bits.
+pub fn write_frame(station: u8, address: u16, bits: u32) -> Vec<u8> {
+    let [high, low] = address.to_be_bytes();
+    let [b3, b2, b1, b0] = bits.to_be_bytes();
+    sealed(vec![station, 16, high, low, 0, 2, 4, b1, b0, b3, b2])
+}
