@@ -1,3 +1,4 @@
+mod Field
 mod Kept
 mod Outcome
 mod Served

@@ -9,12 +9,11 @@ use lib.Dec.{T}
 use mir.Syntax.{w8, tyInt}
 use mir.Val.{Val, vint, vstruct, Vals, vcons, vnil, WT, hasTy}
 use mir.Fields.{setV}
-use base.Fml.{Fml, fat}
 use prog.Memory.{fieldOf}
 use prog.Wp.{Heap}
 use ghost.Atoms.{Atoms}
 use types.Kit.{Given, ‵}
-use types.Part.{Part, whole, sub}
+use types.Part.{Part}
 use denote.Laws.{Is}
 use denote.Steps.{only}
 use denote.Struct.Laws as LL
@@ -22,6 +21,7 @@ use Rattle.converter.specs.declared.Outcome.{Outcome}
 use Rattle.converter.proofs.Device.Laws as D′
 use Rattle.converter.proofs.Outcome as S
 use Rattle.converter.proofs.Outcome.Laws as S′
+use Rattle.board.proofs.Field.{cell, IsStruct, field-in}
 use Rattle.board.proofs.Kept.{mach, IsDevice}
 
 abbrev pub fields : Outcome → Vals
@@ -50,12 +50,12 @@ number-at = refl
 pub device-at : fieldOf S′.mir 1 ≡ some (D′.mir, 8)
 device-at = refl
 
-abbrev cell : ℕ → Vals → Fml
-cell b vs = fat fullShare S′.mir b 0 (vstruct vs)
+struct : IsStruct S′.mir
+struct = record { name = _; fields = _; is = refl }
 
 module _ {M : Type 1} {𝓤 : URA M} {H : Heap 𝓤} {A : Atoms 𝓤} {K : Type 0} {W : Given 𝓤 H A} where
-  pub number-in : K → (b : ℕ) (r : Outcome) → Part K W (‵ (cell b (fields r))) fullShare (tyInt w8) b 0 (vint w8 (r .number)) (λ u. ‵ (cell b (setV (fields r) 0 u)))
-  number-in t b r = sub t 0 number-at (whole t)
+  pub number-in : K → (b : ℕ) (r : Outcome) → Part K W (‵ (cell S′.mir b (fields r))) fullShare (tyInt w8) b 0 (vint w8 (r .number)) (λ u. ‵ (cell S′.mir b (setV (fields r) 0 u)))
+  number-in t b r = field-in t S′.mir struct 0 (tyInt w8) 0 number-at b (fields r)
 
-  pub device-in : K → (b : ℕ) (r : Outcome) → Part K W (‵ (cell b (fields r))) fullShare D′.mir b 8 (mach (r .device)) (λ u. ‵ (cell b (setV (fields r) 1 u)))
-  device-in t b r = sub t 1 device-at (whole t)
+  pub device-in : K → (b : ℕ) (r : Outcome) → Part K W (‵ (cell S′.mir b (fields r))) fullShare D′.mir b 8 (mach (r .device)) (λ u. ‵ (cell S′.mir b (setV (fields r) 1 u)))
+  device-in t b r = field-in t S′.mir struct 1 D′.mir 8 device-at b (fields r)
