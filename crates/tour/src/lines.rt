@@ -2,7 +2,7 @@
 use libc::STDOUT_FILENO;
 
 // The entry that was called, with what, and its number.
-pub fn print_call(entry: &[u8], what: &[u8], number: u8) {
+pub(crate) fn print_call(entry: &[u8], what: &[u8], number: u8) {
     io::write_all(STDOUT_FILENO, entry);
     io::write_all(STDOUT_FILENO, b" ");
     io::write_all(STDOUT_FILENO, what);
@@ -10,14 +10,14 @@ pub fn print_call(entry: &[u8], what: &[u8], number: u8) {
     io::print_decimal(STDOUT_FILENO, wide(number));
 }
 
-pub fn print_length(length: usize) {
+pub(crate) fn print_length(length: usize) {
     io::write_all(STDOUT_FILENO, b", ");
     io::print_decimal(STDOUT_FILENO, length as u64);
     io::write_all(STDOUT_FILENO, b" bytes");
 }
 
 // Two digits each.
-pub fn print_bytes(bytes: &[u8]) {
+pub(crate) fn print_bytes(bytes: &[u8]) {
     io::write_all(STDOUT_FILENO, b",");
     let mut i: usize = 0;
     while i < bytes.len() {
@@ -28,7 +28,7 @@ pub fn print_bytes(bytes: &[u8]) {
 }
 
 // The bit pattern of a float; nothing of a NaN, which no device gives.
-pub fn print_float(x: f32) {
+pub(crate) fn print_float(x: f32) {
     if x != x {
         return;
     }
@@ -36,7 +36,7 @@ pub fn print_float(x: f32) {
     io::print_hex(STDOUT_FILENO, f32::to_bits(x) as u64, 8);
 }
 
-pub fn end_line() {
+pub(crate) fn end_line() {
     io::write_all(STDOUT_FILENO, b"\n");
 }
 

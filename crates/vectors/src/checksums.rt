@@ -41,7 +41,7 @@ fn of_001() -> u64 {
     n
 }
 
-pub fn report_all() {
+pub(crate) fn report_all() {
     report(b"published checksums", published(), 3);
     report(b"example checksums", examples(), 7);
     report(b"checksums of 001", of_001(), 6);

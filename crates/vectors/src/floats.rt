@@ -167,7 +167,7 @@ fn unfit_flags() -> u64 {
     n
 }
 
-pub fn report_all() {
+pub(crate) fn report_all() {
     report(b"floats of 001", of_001(), 5);
     report(b"exact floats", exact(), 7);
     report(b"rounded floats", rounded(), 5);

@@ -195,7 +195,7 @@ fn too_long() -> u64 {
     asks(0, &frame, 9, 1, 13)
 }
 
-pub fn report_all() {
+pub(crate) fn report_all() {
     report(b"frames that read", reads(), 3);
     report(b"frames that write", writes(), 3);
     report(b"frames that act", actions(), 3);

@@ -175,7 +175,7 @@ fn silences() -> u64 {
     n
 }
 
-pub fn report_all() {
+pub(crate) fn report_all() {
     report(b"replies to reads", values(), 3);
     report(b"replies to writes", acknowledgements(), 3);
     report(b"exceptions to reads", to_reads(), 3);
