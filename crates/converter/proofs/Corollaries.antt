@@ -22,8 +22,9 @@ use Rattle.modbus.proofs.Replies.{length-framed}
 use Rattle.modbus.specs.declared.frame.Frame.{Frame}
 use Rattle.modbus.specs.declared.frame.Frame.the-variants.{Write, Read, Act}
 use Rattle.state.specs.Reading.{badReading, taken}
-use Rattle.state.specs.Request.{requested, setupBy, stateBy, snapped, peaksAt, peaksReset}
-use Rattle.state.specs.Register.{registerAt, onReading, answered, numberOf}
+use Rattle.state.specs.Request.{requested, setupBy, stateBy, fresh, snapped, peaksAt, peaksReset}
+use Rattle.state.specs.Register.{stepsAt, readingFloat, readingAt, registerAt, onReading, answered, numberOf}
+use Rattle.state.specs.Report.{reported}
 use Rattle.state.specs.declared.State.{State}
 use Rattle.state.specs.declared.requests.Request.{Request}
 use Rattle.state.specs.declared.requests.Request.the-variants.{Refuse, Show, Flag, Zero, Rst, Snap, PeakReset}
@@ -217,12 +218,23 @@ module _ (d : Device) (s : List ℕ) (room : ℕ) where
   unfolding requested setupBy stateBy
   rst-starts e = obeys (Act 100) e
 
+  -- so the next reads show REBOOT, the SZ that was in force and no snapshot, and a report is refused
+  pub rst-shown : judged s room (d .setup .station) ≡ Act 100
+      → Shows after 14 (wholeFloat 32768) × Shows after 22 (stepFloat (d .setup .figures .system .sz)) × (registerAt (after .state) (after .setup .figures .system .sz) 23 ≡ Refused 11) × (reported (after .state .readings) .number ≡ 10)
+  unfolding registerAt fresh reported
+  rst-shown e =
+      subst
+      (λ (g : Device). Shows g 14 (wholeFloat 32768) × Shows g 22 (stepFloat (d .setup .figures .system .sz)) × (registerAt (g .state) (g .setup .figures .system .sz) 23 ≡ Refused 11) × (reported (g .state .readings) .number ≡ 10))
+      (sym (rst-starts e))
+      (refl, refl, refl, refl)
+
   -- "a peak reset, which sets both to the present SYS"
   pub peaks-shown : judged s room (d .setup .station) ≡ Act 104 → d .state .readings .any ≡ true
-      → (after .state .readings .peak ≡ d .state .readings .values .sys) × (after .state .readings .trof ≡ d .state .readings .values .sys)
-  unfolding requested setupBy stateBy peaksReset
+      → Shows after 24 (stepFloat (d .state .readings .values .sys)) × Shows after 25 (stepFloat (d .state .readings .values .sys))
+  unfolding requested setupBy stateBy peaksReset registerAt readingAt readingFloat stepsAt
   peaks-shown e any =
       let t = d .state in
       let reset : State = record { readings = peaksAt (t .readings); flag = t .flag; snapshot = t .snapshot } in
-      let is : after .state ≡ reset = ap (λ (g : Device). g .state) (obeys (Act 104) e) ∙ ap (λ (b : Bool). cond b reset t) any in
-      (ap (λ (u : State). u .readings .peak) is, ap (λ (u : State). u .readings .trof) is)
+      let sys : Float = stepFloat (t .readings .values .sys) in
+      let sent : cond (t .readings .any) (Value sys) (Refused 10) ≡ Value sys = ap (λ (b : Bool). cond b (Value sys) (Refused 10)) any in
+      subst (λ (g : Device). Shows g 24 sys × Shows g 25 sys) (sym (obeys (Act 104) e ∙ ap (λ (b : Bool). record { setup = d .setup; state = cond b reset t }) any)) (sent, sent)

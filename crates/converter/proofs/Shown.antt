@@ -31,7 +31,7 @@ report-of r v present is =
 
 pub always-shown : (d : Device) (l : Log) → d .setup ≡ l .setup → AlwaysShown d l
 unfolding registerAt
-always-shown d l e = record { flag = refl; sz = ap (λ (s : Setup). Value (stepFloat (s .figures .system .sz))) e; rst = refl; snap = refl; peak-reset = refl }
+always-shown d l e = record { flag = refl; sz = ap (λ (s : Setup). Value (stepFloat (s .figures .system .sz))) e; sysn = refl; rst = refl; snap = refl; peak-reset = refl }
 
 pub shown : (d : Device) (es : List Entry) (k : Kept) → Right (d .state .readings) es k → Shown d k
 unfolding registerAt readingFloat stepsAt

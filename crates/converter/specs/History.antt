@@ -1,6 +1,6 @@
 -- Demand 3, one claim about the whole list of calls: the device that comes of it agrees with the log.
 use mathlib.Core.Path.{_≡_}
-use mathlib.Core.Bool.{true, false}
+use mathlib.Core.Bool.{true, false, cond}
 use mathlib.Core.List.{List, [], _∷_, _++_, List·Memᴰ}
 use mathlib.Core.Logic.{_↔_}
 use mathlib.Core.Option.{Option, none, some}
@@ -15,7 +15,7 @@ use Rattle.state.specs.Register.{registerAt}
 use Rattle.state.specs.Report.{reported}
 use Rattle.state.specs.declared.Readings.{Readings}
 use Rattle.converter.specs.declared.Device.{Device}
-use Rattle.state.specs.declared.registers.Answer.the-variants.{Value}
+use Rattle.state.specs.declared.registers.Answer.the-variants.{Value, Refused}
 use Rattle.converter.specs.Making.{made}
 use Rattle.converter.specs.Call.{Call, run}
 use Rattle.converter.specs.Log.{Kept, valued, Entry, joined, peakReset, Event, raised, kept, Log, latest, logOf}
@@ -70,10 +70,11 @@ pub record Right (r : Readings) (entries : List Entry) (k : Kept) : Type 0 where
 abbrev pub Shows : Device → ℕ → Float → Type 0
 Shows d n x = registerAt (d .state) (d .setup .figures .system .sz) n ≡ Value x
 
--- at all times: FLAG, the SZ in force, and 0.0 for RST, SNAP and peak reset
+-- at all times: FLAG, the SZ in force, SYSN where one was taken (else 11), and 0.0 for RST, SNAP and peak reset
 pub record AlwaysShown (d : Device) (l : Log) : Type 0 where
   pub flag : Shows d 14 (wholeFloat (d .state .flag))
   pub sz : Shows d 22 (stepFloat (l .setup .figures .system .sz))
+  pub sysn : registerAt (d .state) (d .setup .figures .system .sz) 23 ≡ cond (d .state .snapshot .taken) (Value (stepFloat (d .state .snapshot .sysn))) (Refused 11)
   pub rst : Shows d 100 (wholeFloat 0)
   pub snap : Shows d 103 (wholeFloat 0)
   pub peak-reset : Shows d 104 (wholeFloat 0)
