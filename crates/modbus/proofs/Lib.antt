@@ -1,6 +1,6 @@
 pub mod Xor
 pub mod Shifts
-pub mod Table
+pub mod Sixteen
 pub mod Registers
 pub mod Replies
 pub mod Judged
