@@ -1,9 +1,9 @@
--- The table as the code has it, the first `count` of an array of rows: the loop that counts those below t, and the value that
--- the count gives. One file for arrays of any size. Assumes nothing.
-use mathlib.Core.Path.{_≡_, sym, _∙_, ap, subst}
+-- The table as the code has it, the first `count` of an array of rows: the loop that passes those below t, and the value where
+-- it stops. One file for arrays of any size. Assumes nothing.
+use mathlib.Core.Path.{_≡_, refl, sym, _∙_, ap, subst}
 use mathlib.Core.Bool.{true, false, cond}
-use mathlib.Core.List.{List, []}
-use Prim.Native.Nat.{ℕ, suc, _+_, _-_, _<_, _≤_}
+use mathlib.Core.List.{List, [], _∷_}
+use Prim.Native.Nat.{ℕ, zero, suc, _+_, _<_, _≤_}
 use native.Mathlib.Omega.{arith}
 use native.Mathlib.Nat.{add-zero}
 use native.Mathlib.Numerals.{add-one}
@@ -11,11 +11,11 @@ use lib.IntN.{ℤ}
 use lib.ListN.{length, getD, take, drop, length-take}
 use lib.Seq.{drop-cons, drop-length, getD-take}
 use lib.Signed.{leZ}
-use Rattle.arithmetic.specs.Table.{Point, column, place, line, between, interpolated}
-use Rattle.arithmetic.specs.Segment.{below, Segment, Found}
-use Rattle.arithmetic.proofs.Segment.{each-at, Stands, below-stands, at-first, at-last, at-between}
+use Rattle.arithmetic.specs.Table.{Point, column, place, line, between, interpolated, Computable}
+use Rattle.arithmetic.specs.Segment.{Segment}
+use Rattle.arithmetic.proofs.Segment.{below, each-at, Stands, below-stands, at-empty, at-first, at-last, at-between}
 
--- ---- the loop that counts: the first k points of the table of `count` rows lie below t
+-- ---- the loop: the first k points of the table of `count` rows lie below t
 
 module _ (t : ℤ) (rows : List Point) (count : ℕ) where
   pub record Passed (k : ℕ) : Type 0 where
@@ -46,49 +46,43 @@ module _ (t : ℤ) (rows : List Point) (count : ℕ) where
 
 -- ---- the value: k of the rows lie below t
 
-module _ (j : ℕ) (t : ℤ) (rows : List Point) (count k : ℕ) (f : Found j t (take count rows) k) where
-  stands : Stands t (take count rows) k
-  stands = subst (Stands t (take count rows)) (sym (f .is)) (below-stands t (take count rows))
+-- column j of the row before k; before the first there is none, and 0 stands for it
+abbrev pub figureBefore : ℕ → List Point → ℕ → ℤ
+figureBefore j rows k = column j (getD ([] ∷ rows) k [])
 
-  pub found-inside : (k ≤ count) × (k ≤ length rows)
-  found-inside = (omega (arith, stands .inside, length-take count rows), omega (arith, stands .inside, length-take count rows))
+pub figure-before-more : (j : ℕ) (rows : List Point) (k : ℕ) → column j (getD rows k []) ≡ figureBefore j rows (k + 1)
+figure-before-more j rows k = rw add-one
 
-  pub value-first : 0 < count → k ≡ 0 → column j (getD rows 0 []) ≡ interpolated j (take count rows) t
-  value-first l e = sym (at-first j (take count rows) t (sym (f .is) ∙ e) ∙ ap (column j) (getD-take count rows 0 [] l))
+module _ (j : ℕ) (t : ℤ) (rows : List Point) (count : ℕ) where
+  pub value-first : (k : ℕ) → below t (take count rows) ≡ k → 0 < count → k ≡ 0 → column j (getD rows k []) ≡ interpolated j (take count rows) t
+  value-first k b l e = rw e (sym (at-first j (take count rows) t (b ∙ e) ∙ ap (column j) (getD-take count rows 0 [] l)))
 
-  -- the row before k is the table's last
-  pub value-last : 0 < k → length (take count rows) ≤ k → column j (getD rows (k - 1) []) ≡ interpolated j (take count rows) t
-  value-last l m =
-      let i = k - 1 in
-      let h = found-inside in
-      let e : k ≡ suc i = omega arith in
-      let n : length (take count rows) ≡ suc i = omega (arith, length-take count rows) in
-      sym (at-last j (take count rows) t i (sym (f .is) ∙ e) n ∙ ap (column j) (getD-take count rows i [] (omega arith)))
+  -- the row before k is the table's last, or the table is empty
+  pub value-last : (k : ℕ) → below t (take count rows) ≡ k → length (take count rows) ≤ k → figureBefore j rows k ≡ interpolated j (take count rows) t
+  value-last zero b l = sym (at-empty j (take count rows) t (omega arith))
+  value-last (suc i) b l =
+      let n = below-stands t (take count rows) .inside in
+      sym (at-last j (take count rows) t i b (omega (arith, n)) ∙ ap (column j) (getD-take count rows i [] (omega (arith, n, length-take count rows))))
 
   -- the rows before k and at k are neighbours
-  module _ (l : 0 < k) (c : k < count) (r : k < length rows) where
-    p-is : getD (take count rows) (k - 1) [] ≡ getD rows (k - 1) []
-    p-is = getD-take count rows (k - 1) [] (omega arith)
+  pub value-line : (k : ℕ) → below t (take count rows) ≡ k → 0 < k → k < count → k < length rows
+      → line (figureBefore 0 rows k) (figureBefore j rows k) (place (getD rows k [])) (column j (getD rows k [])) t ≡ interpolated j (take count rows) t
+  unfolding between
+  value-line zero b l c r = absurd (omega arith)
+  value-line (suc i) b l c r =
+      sym (at-between j (take count rows) t i b (simp length-take (omega arith)) ∙ rw (getD-take count rows i [] (omega arith), getD-take count rows (suc i) [] c))
 
-    q-is : getD (take count rows) k [] ≡ getD rows k []
-    q-is = getD-take count rows k [] c
-
-    pub value-line : line (place (getD rows (k - 1) [])) (column j (getD rows (k - 1) [])) (place (getD rows k [])) (column j (getD rows k [])) t ≡ interpolated j (take count rows) t
-    unfolding between
-    value-line =
-        let i = k - 1 in
-        let e : k ≡ suc i = omega arith in
-        let n : suc i < length (take count rows) = omega (arith, length-take count rows) in
-        sym (at-between j (take count rows) t i (sym (f .is) ∙ e) n ∙ rw (← e, p-is, q-is))
-
-    pub value-segment : Segment (place (getD rows (k - 1) [])) (column j (getD rows (k - 1) [])) (place (getD rows k [])) (column j (getD rows k [])) t
-    value-segment = rw (← p-is, ← q-is) (
-        let n : k < length (take count rows) = omega (arith, length-take count rows) in
-        record {
-          t₁-in = each-at _ (take count rows) (k - 1) (f .computable .places) (omega arith);
-          v₁-in = each-at _ (take count rows) (k - 1) (f .computable .values) (omega arith);
-          t₂-in = each-at _ (take count rows) k (f .computable .places) n;
-          v₂-in = each-at _ (take count rows) k (f .computable .values) n;
-          after = stands .passed (k - 1) (omega arith);
-          upto = stands .stopped n;
-        })
+  pub value-segment : (k : ℕ) → below t (take count rows) ≡ k → 0 < k → k < count → k < length rows → Computable j (take count rows)
+      → Segment (figureBefore 0 rows k) (figureBefore j rows k) (place (getD rows k [])) (column j (getD rows k [])) t
+  value-segment zero b l c r f = absurd (omega arith)
+  value-segment (suc i) b l c r f = rw (← getD-take count rows i [] (omega arith), ← getD-take count rows (suc i) [] c) (
+      let n : suc i < length (take count rows) = simp length-take (omega arith) in
+      let s = subst (Stands t (take count rows)) b (below-stands t (take count rows)) in
+      record {
+        t₁-in = each-at _ (take count rows) i (f .places) (omega arith);
+        v₁-in = each-at _ (take count rows) i (f .values) (omega arith);
+        t₂-in = each-at _ (take count rows) (suc i) (f .places) n;
+        v₂-in = each-at _ (take count rows) (suc i) (f .values) n;
+        after = s .passed i refl;
+        upto = s .stopped n;
+      })

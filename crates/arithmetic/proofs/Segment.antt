@@ -6,7 +6,7 @@ use mathlib.Core.List.{List, [], _∷_}
 use Prim.Native.Nat.{ℕ, zero, suc, _<_, _≤_, _^_}
 use native.Mathlib.Omega.{arith}
 use native.Mathlib.Nat.{mul-le-mul}
-use lib.IntN.{ℤ, negℤ, _-ℤ_, _*ℤ_}
+use lib.IntN.{ℤ, pos, negℤ, _-ℤ_, _*ℤ_}
 use lib.ListN.{length, getD}
 use lib.Signed.{leZ, _≤ℤ_, _<ℤ_, <ℤ-≤ℤ-trans}
 use Rattle.integers.specs.Within.{_within_}
@@ -14,7 +14,7 @@ use Rattle.integers.proofs.Order.{le-yes, le-no, gap-pos, <-≤}
 use Rattle.integers.proofs.Magnitude.{abs-add, abs-neg, abs-mul, abs-between}
 use Rattle.arithmetic.specs.Round.{roundDiv}
 use Rattle.arithmetic.specs.Table.{Point, column, place, between, interpolated, Each}
-use Rattle.arithmetic.specs.Segment.{below, Segment}
+use Rattle.arithmetic.specs.Segment.{Segment}
 use Rattle.arithmetic.proofs.Round.{round-within}
 
 -- ---- a point at an index
@@ -24,7 +24,12 @@ each-at P [] k h l = absurd (omega arith)
 each-at P (p ∷ rest) zero h l = h .0
 each-at P (p ∷ rest) (suc k) h l = each-at P rest k (h .1) (omega arith)
 
--- ---- what the number says
+-- ---- the number of points below t, and what it says
+
+-- how many points, from the first on, lie below t
+unfoldable pub below : ℤ → List Point → ℕ
+below t [] = 0
+below t (p ∷ rest) = cond (leZ t (place p)) 0 (suc (below t rest))
 
 -- it is at most the number of points; the one before it lies below t, and the one at it does not
 pub record Stands (t : ℤ) (table : List Point) (k : ℕ) : Type 0 where
@@ -45,7 +50,12 @@ below-stands t (p ∷ rest) = by (leZ t (place p)) refl (below-stands t rest)
         passed zero k = le-no e
         passed (suc i) k = s .passed i (omega arith)
 
--- ---- the three cases
+-- ---- the cases
+
+pub at-empty : (j : ℕ) (table : List Point) (t : ℤ) → length table ≤ 0 → interpolated j table t ≡ pos 0
+unfolding interpolated
+at-empty j [] t l = refl
+at-empty j (p ∷ rest) t l = absurd (omega arith)
 
 pub at-first : (j : ℕ) (table : List Point) (t : ℤ) → below t table ≡ 0 → interpolated j table t ≡ column j (getD table 0 [])
 unfolding interpolated below

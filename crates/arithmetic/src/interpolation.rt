@@ -4,8 +4,6 @@ ghost use Rattle.arithmetic.specs.Table.{line, interpolated, Computable}
 ghost use Rattle.arithmetic.specs.Segment.{Segment};
 ghost use Rattle.arithmetic.specs.Two.{interpolatedTwo};
 use crate::rounding::round_div;
-use crate::rows_of_three;
-use crate::rows_of_two;
 
 // The two values of a table's points, interpolated.
 pub struct Two {
@@ -13,16 +11,42 @@ pub struct Two {
     pub second: i64,
 }
 
-// Both values of a table of up to five points, rows of three figures: CTO and CTG over CT.
+// Both values of a table of up to five points, rows of three figures: CTO and CTG over CT. The table is searched and read
+// here, since handing an array on by value copies it.
 pub fn interpolate_two(rows: [[i64; 3]; 5], count: usize, t: i64) -> Two
     requires { ⌜ Computable 1 (take count rows) ⌝ }
     requires { ⌜ Computable 2 (take count rows) ⌝ }
     ensures { λ r. ⌜ r ≡ interpolatedTwo (take count rows) t ⌝ }
 {
-    let k = rows_of_three::count_below(rows, count, t);
+    // the figures of the row before k; 0 before the first, the value of a table without points
+    let mut t1: i64 = 0;
+    let mut v1: i64 = 0;
+    let mut w1: i64 = 0;
+    let mut k: usize = 0;
+    while k < 5 && k < count {
+        let t2 = rows[k][0];
+        let v2 = rows[k][1];
+        let w2 = rows[k][2];
+        if t <= t2 {
+            if k == 0 {
+                return Two {
+                    first: v2,
+                    second: w2,
+                };
+            }
+            return Two {
+                first: line_at(t1, v1, t2, v2, t),
+                second: line_at(t1, w1, t2, w2, t),
+            };
+        }
+        t1 = t2;
+        v1 = v2;
+        w1 = w2;
+        k += 1;
+    }
     Two {
-        first: rows_of_three::value_at(rows, count, k, 1, t),
-        second: rows_of_three::value_at(rows, count, k, 2, t),
+        first: v1,
+        second: w1,
     }
 }
 
@@ -31,8 +55,23 @@ pub fn interpolate_one(rows: [[i64; 2]; 7], count: usize, t: i64) -> i64
     requires { ⌜ Computable 1 (take count rows) ⌝ }
     ensures { λ r. ⌜ r ≡ interpolated 1 (take count rows) t ⌝ }
 {
-    let k = rows_of_two::count_below(rows, count, t);
-    rows_of_two::value_at(rows, count, k, t)
+    let mut x1: i64 = 0;
+    let mut v1: i64 = 0;
+    let mut k: usize = 0;
+    while k < 7 && k < count {
+        let x2 = rows[k][0];
+        let v2 = rows[k][1];
+        if t <= x2 {
+            if k == 0 {
+                return v2;
+            }
+            return line_at(x1, v1, x2, v2, t);
+        }
+        x1 = x2;
+        v1 = v2;
+        k += 1;
+    }
+    v1
 }
 
 // The line from (t1, v1) to (t2, v2), at t.

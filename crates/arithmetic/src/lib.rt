@@ -1,8 +1,6 @@
 // Rounding and interpolation (01, "Steps and rounding" and step 2 of "The reading").
 mod interpolation;
 mod rounding;
-mod rows_of_three;
-mod rows_of_two;
 
 pub use interpolation::Two;
 pub use interpolation::interpolate_one;
