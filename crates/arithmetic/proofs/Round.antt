@@ -236,6 +236,18 @@ module _ (a d : ℤ) (h : pos 0 <ℤ d) where
       sym (+ℤ-idr (quotZ a d))
       ∙ by-rest (pos 0) (lt! (minus ⟨ d ⟩) E (omega (ints, lt? (⟨ remZ a d ⟩ ⊗ nat 2) ⟨ d ⟩ u))) (le! E ⟨ d ⟩ (omega (ints, le? (nat 0 ⊝ ⟨ d ⟩) (⟨ remZ a d ⟩ ⊗ nat 2) l)))
 
+-- ---- by a floor, for an even d, as the code goes where d is a power of two: ⌊(a + d/2) ÷ d⌋
+
+pub round-floor : (a : ℤ) (half : ℕ) → 0 < half → shrZ (a +ℤ pos half) (2 * half) ≡ roundDiv a (pos (2 * half))
+round-floor a half h =
+    let d = nat (2 * half) in
+    let r = shrZ (a +ℤ pos half) (2 * half) in
+    let b = floor-bounds (a +ℤ pos half) (2 * half) (omega arith) in
+    let E = nat 2 ⊗ (⟨ r ⟩ ⊗ d ⊝ ⟨ a ⟩) in
+    round-unique a (pos (2 * half)) r (lt! (nat 0) d (omega arith))
+    (lt! (minus d) E (omega (arith, lt? (⟨ a ⟩ ⊕ nat half) (d ⊗ ⟨ r ⟩ ⊕ d) (b .1))))
+    (le! E d (omega (arith, le? (d ⊗ ⟨ r ⟩) (⟨ a ⟩ ⊕ nat half) (b .0))))
+
 -- it fits where a does
 pub round-fits : {w : Width} (a d : ℤ) → pos 0 <ℤ d → SFits w a → SFits w (roundDiv a d)
 round-fits a (negsuc m) h f = absurd (h .lt)

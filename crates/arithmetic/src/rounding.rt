@@ -5,8 +5,8 @@ ghost use lib.Signed.{_<ℤ_};
 ghost use Rattle.integers.specs.Within.{_within_};
 ghost use Rattle.arithmetic.specs.Round.{roundDiv};
 
-// round(a ÷ d): the nearest whole number, halves upwards. Twice the remainder is compared with d, and never 2a + d computed:
-// (CELL − SOFS) × SGAI reaches 99.18 % of an i64.
+// round(a ÷ d): the nearest whole number, halves upwards. Twice the remainder is compared with d, and never 2a + d computed: a
+// is any i64.
 pub fn round_div(a: i64, d: i64) -> i64
     requires { ⌜ pos 0 <ℤ d ⌝ }
     requires { ⌜ d within (2 ^ 62) ⌝ }

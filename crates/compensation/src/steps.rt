@@ -10,7 +10,6 @@ ghost use Rattle.compensation.specs.Values.{valuesOf, ReadingInput, Gain
 use crate::stat::stat_bits;
 use crate::tables::adjustments;
 use crate::tables::correction;
-use arithmetic::round_div;
 use figures::Calibration;
 use figures::Cell;
 use figures::Linearity;
@@ -49,12 +48,16 @@ pub fn compensate(c: Calibration, elec: i64, temp: i64, integrity: u8) -> Values
     }
 }
 
-// round(x × gain ÷ 2^28): for y, raw cell and raw system.
+// 2^27: half of the 2^28 parts that are 1.
+const HALF: i64 = 134_217_728;
+
+// round(x × gain ÷ 2^28): for y, raw cell and raw system. Halves upwards it is ⌊(x × gain + 2^27) ÷ 2^28⌋, and a shift divides
+// by a power of two downwards. The sum stays within an i64, of which the product takes at most 99.18 %.
 fn scale(x: i64, gain: i64) -> i64
     requires { ⌜ (x *ℤ gain) within 9147936743096320000 ⌝ }
     ensures { λ r. ⌜ r ≡ scaled x gain ⌝ }
 {
-    round_div(x * gain, Calibration::UNIT)
+    (x * gain + HALF) >> 28
 }
 
 fn hold_within(lo: i64, hi: i64, x: i64) -> i64

@@ -1,29 +1,36 @@
--- `scale` meets its contract: the product fits. Assumes nothing.
-use mathlib.Core.Path.{_∙_}
-use lib.IntN.{_*ℤ_}
+-- `scale` meets its contract: product and sum fit, and the shift is the rounded quotient. Assumes nothing.
+use Prim.Native.Nat.{_^_}
+use native.Mathlib.Omega.{arith}
+use lib.IntN.{pos, _+ℤ_, _*ℤ_}
+use lib.Signed.{ltZ-yes}
 use mir.Syntax.{w64}
 use mir.Val.{SFits}
 use mir.ValLaws.{toZ-ofZ}
-use borrow.Author.Needs.{needs}
-use Rattle.integers.proofs.Machine.{fits, known}
-use Rattle.compensation.specs.Reading.{scaled}
+use Rattle.integers.proofs.Machine.{fits, known, literal, sum}
+use Rattle.arithmetic.specs.Round.{roundDiv}
+use Rattle.arithmetic.proofs.Round.{round-floor, round-fits}
+use Rattle.compensation.specs.Reading.{one, scaled}
 use Rattle.compensation.proofs.steps.scale.Statement.{statement}
 use Rattle.compensation.proofs.steps.scale.Tie as tie
 
 product-fits : (s : tie.Start) → SFits w64 (s .args .x *ℤ s .args .gain)
 product-fits s = fits (known (s .pre)) tt
 
-mul-round-div : tie.Need-mul-round-div
-mul-round-div c = simp (toZ-ofZ, c .fits .x, c .fits .gain) (product-fits c)
+sum-fits : (s : tie.Start) → SFits w64 (s .args .x *ℤ s .args .gain +ℤ pos (2 ^ 27))
+sum-fits s = fits (sum (known (s .pre)) (literal (2 ^ 27))) tt
 
-round-div-requires : tie.Need-round-div-requires
-round-div-requires c κs = search needs
+mul-result : tie.Need-mul-result
+mul-result c = simp (toZ-ofZ, c .fits .x, c .fits .gain) (product-fits c)
+
+add-result : tie.Need-add-result
+add-result c = simp (toZ-ofZ, c .fits .x, c .fits .gain, product-fits c) (sum-fits c)
 
 returns : tie.Need-returns
 unfolding scaled
 returns c =
-    let s = c .before in
-    toZ-ofZ w64 _ (record { sfits = c .round-div .ok }) ∙ (simp (toZ-ofZ, s .fits .x, s .fits .gain, product-fits s) at (c .round-div .ensures))
+    let z = c .args .x *ℤ c .args .gain in
+    simp (toZ-ofZ, c .fits .x, c .fits .gain, product-fits c, sum-fits c)
+    (rw (round-floor z (2 ^ 27) (omega arith)) (toZ-ofZ w64 (roundDiv z one) (round-fits z one (ltZ-yes tt) (product-fits c))))
 
 pub scale-spec : {M : Type 1} → statement M
-scale-spec = tie.close (tie.spec mul-round-div round-div-requires returns)
+scale-spec = tie.close (tie.spec mul-result add-result returns)
