@@ -2,7 +2,7 @@
 -- before k. Assumes nothing.
 use mathlib.Core.Path.{_≡_, refl, _∙_}
 use mathlib.Core.List.{List, []}
-use Prim.Native.Nat.{ℕ, zero, suc, _+_, _-_, _<_, _≤_}
+use Prim.Native.Nat.{ℕ, _-_, _<_, _≤_}
 use native.Mathlib.Omega.{arith}
 use lib.IntN.{ℤ}
 use lib.ListN.{length, getD, take, length-take}
@@ -39,10 +39,11 @@ module _ (c : tie.After-v2 Inv-loop μ-loop) where
   abbrev read : ℕ → ℤ
   read j = column j (getD (at .before .args .t1) (at .loop .k) [])
 
-  read-is : (j : ℕ) → j < 2 → toZ w64 (ofZ w64 (read j)) ≡ read j
-  read-is zero h = search needs
-  read-is (suc zero) h = search needs
-  read-is (suc (suc j)) h = absurd (omega arith)
+  place-is : toZ w64 (ofZ w64 (read 0)) ≡ read 0
+  place-is = search needs
+
+  value-is : toZ w64 (ofZ w64 (read 1)) ≡ read 1
+  value-is = search needs
 
   t-is : toZ w64 (ofZ w64 (at .before .args .t)) ≡ at .before .args .t
   t-is = toZ-ofZ w64 (at .before .args .t) (at .before .fits .t)
@@ -54,20 +55,20 @@ stop : (c : tie.Then2 Inv-loop μ-loop) → below (at (c .before) .before .args 
 stop c =
     let w = c .before in
     let a = at w .before .args in
-    passed-stop (a .t) (a .t1) (a .count) (at w .loop .k) (rw (t-is w) at (at w .loop .inv .0)) (inside w .0) (inside w .1) (rw (t-is w, read-is w 0 (omega arith)) at (c .if2 .taken))
+    passed-stop (a .t) (a .t1) (a .count) (at w .loop .k) (rw (t-is w) at (at w .loop .inv .0)) (inside w .0) (inside w .1) (rw (t-is w, place-is w) at (c .if2 .taken))
 
 returns : tie.Need-returns Inv-loop μ-loop
 returns c =
     let w = c .before .before in
     let a = at w .before .args in
-    read-is w 1 (omega arith) ∙ value-first 1 (a .t) (a .t1) (a .count) (at w .loop .k) (stop (c .before)) (omega (arith, inside w)) (c .if3 .taken)
+    value-is w ∙ value-first 1 (a .t) (a .t1) (a .count) (at w .loop .k) (stop (c .before)) (omega (arith, inside w)) (c .if3 .taken)
 
 line-at-requires : tie.Need-line-at-requires Inv-loop μ-loop
 line-at-requires c κs =
     let w = c .before .before in
     let a = at w .before .args in
     let l = at w .loop in
-    rw (l .inv .1, l .inv .2, read-is w 0 (omega arith), read-is w 1 (omega arith), t-is w)
+    rw (l .inv .1, l .inv .2, place-is w, value-is w, t-is w)
     (value-segment 1 (a .t) (a .t1) (a .count) (l .k) (stop (c .before)) (omega arith) (inside w .0) (inside w .1) (at w .before .pre))
 
 returns-2 : tie.Need-returns-2 Inv-loop μ-loop
@@ -76,16 +77,15 @@ returns-2 c =
     let a = at w .before .args in
     let l = at w .loop in
     let b = stop (c .before .before) in
-    held (c .line-at .ok) (rw (l .inv .1, l .inv .2, read-is w 0 (omega arith), read-is w 1 (omega arith), t-is w, value-line 1 (a .t) (a .t1) (a .count) (l .k) b (omega arith) (inside w .0) (inside w .1)) at (c .line-at .ensures))
+    held (c .line-at .ok) (rw (l .inv .1, l .inv .2, place-is w, value-is w, t-is w, value-line 1 (a .t) (a .t1) (a .count) (l .k) b (omega arith) (inside w .0) (inside w .1)) at (c .line-at .ensures))
 
 loop-again : tie.Need-loop-again Inv-loop μ-loop
 loop-again c =
     let w = c .before in
     let a = at w .before .args in
     let k = at w .loop .k in
-    let more : (j : ℕ) → j < 2 → toZ w64 (ofZ w64 (read w j)) ≡ figureBefore j (a .t1) (k + 1) = λ j h. read-is w j h ∙ figure-before-more j (a .t1) k in
-    let passed = passed-more _ (a .t1) (a .count) k (at w .loop .inv .0) (inside w .0) (inside w .1) (rw (read-is w 0 (omega arith)) at (c .if2 .left)) in
-    (passed, more 0 (omega arith), more 1 (omega arith))
+    let passed = passed-more _ (a .t1) (a .count) k (at w .loop .inv .0) (inside w .0) (inside w .1) (rw (place-is w) at (c .if2 .left)) in
+    (passed, place-is w ∙ figure-before-more 0 (a .t1) k, value-is w ∙ figure-before-more 1 (a .t1) k)
 
 -- past the count or past the rows, the row before k is the table's last
 end : (c : tie.At-loop Inv-loop μ-loop) → length (table (c .before)) ≤ c .loop .k → toZ w64 (c .loop .v1) ≡ interpolated 1 (table (c .before)) (c .before .args .t)

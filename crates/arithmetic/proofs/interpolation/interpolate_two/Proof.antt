@@ -2,7 +2,7 @@
 -- row before k. Assumes nothing.
 use mathlib.Core.Path.{_≡_, refl, _∙_}
 use mathlib.Core.List.{List, []}
-use Prim.Native.Nat.{ℕ, zero, suc, _+_, _-_, _<_, _≤_}
+use Prim.Native.Nat.{ℕ, _-_, _<_, _≤_}
 use native.Mathlib.Omega.{arith}
 use lib.IntN.{ℤ}
 use lib.ListN.{length, getD, take, length-take}
@@ -40,11 +40,14 @@ module _ (c : tie.After-w2 Inv-loop μ-loop) where
   abbrev read : ℕ → ℤ
   read j = column j (getD (at .before .args .t1) (at .loop .k) [])
 
-  read-is : (j : ℕ) → j < 3 → toZ w64 (ofZ w64 (read j)) ≡ read j
-  read-is zero h = search needs
-  read-is (suc zero) h = search needs
-  read-is (suc (suc zero)) h = search needs
-  read-is (suc (suc (suc j))) h = absurd (omega arith)
+  place-is : toZ w64 (ofZ w64 (read 0)) ≡ read 0
+  place-is = search needs
+
+  first-is : toZ w64 (ofZ w64 (read 1)) ≡ read 1
+  first-is = search needs
+
+  second-is : toZ w64 (ofZ w64 (read 2)) ≡ read 2
+  second-is = search needs
 
   t-is : toZ w64 (ofZ w64 (at .before .args .t)) ≡ at .before .args .t
   t-is = toZ-ofZ w64 (at .before .args .t) (at .before .fits .t)
@@ -56,7 +59,7 @@ stop : (c : tie.Then2 Inv-loop μ-loop) → below (at (c .before) .before .args 
 stop c =
     let w = c .before in
     let a = at w .before .args in
-    passed-stop (a .t) (a .t1) (a .count) (at w .loop .k) (rw (t-is w) at (at w .loop .inv .0)) (inside w .0) (inside w .1) (rw (t-is w, read-is w 0 (omega arith)) at (c .if2 .taken))
+    passed-stop (a .t) (a .t1) (a .count) (at w .loop .k) (rw (t-is w) at (at w .loop .inv .0)) (inside w .0) (inside w .1) (rw (t-is w, place-is w) at (c .if2 .taken))
 
 returns : tie.Need-returns Inv-loop μ-loop
 returns c =
@@ -64,14 +67,14 @@ returns c =
     let a = at w .before .args in
     let value : (j : ℕ) → read w j ≡ interpolated j (table (at w .before)) (a .t) =
     λ j. value-first j (a .t) (a .t1) (a .count) (at w .loop .k) (stop (c .before)) (omega (arith, inside w)) (c .if3 .taken) in
-    rw (read-is w 1 (omega arith), read-is w 2 (omega arith), value 1, value 2)
+    rw (first-is w, second-is w, value 1, value 2)
 
 line-at-requires : tie.Need-line-at-requires Inv-loop μ-loop
 line-at-requires c κs =
     let w = c .before .before in
     let a = at w .before .args in
     let l = at w .loop in
-    rw (l .inv .1, l .inv .2, read-is w 0 (omega arith), read-is w 1 (omega arith), t-is w)
+    rw (l .inv .1, l .inv .2, place-is w, first-is w, t-is w)
     (value-segment 1 (a .t) (a .t1) (a .count) (l .k) (stop (c .before)) (omega arith) (inside w .0) (inside w .1) (at w .before .pre .0))
 
 line-at-requires-2 : tie.Need-line-at-requires-2 Inv-loop μ-loop
@@ -79,7 +82,7 @@ line-at-requires-2 c κs =
     let w = c .before .before .before in
     let a = at w .before .args in
     let l = at w .loop in
-    rw (l .inv .1, l .inv .3, read-is w 0 (omega arith), read-is w 2 (omega arith), t-is w)
+    rw (l .inv .1, l .inv .3, place-is w, second-is w, t-is w)
     (value-segment 2 (a .t) (a .t1) (a .count) (l .k) (stop (c .before .before)) (omega arith) (inside w .0) (inside w .1) (at w .before .pre .1))
 
 returns-2 : tie.Need-returns-2 Inv-loop μ-loop
@@ -88,8 +91,8 @@ returns-2 c =
     let a = at w .before .args in
     let l = at w .loop in
     let b = stop (c .before .before .before) in
-    let v = rw (l .inv .1, l .inv .2, read-is w 0 (omega arith), read-is w 1 (omega arith), t-is w, value-line 1 (a .t) (a .t1) (a .count) (l .k) b (omega arith) (inside w .0) (inside w .1)) at (c .before .line-at .ensures) in
-    let u = rw (l .inv .1, l .inv .3, read-is w 0 (omega arith), read-is w 2 (omega arith), t-is w, value-line 2 (a .t) (a .t1) (a .count) (l .k) b (omega arith) (inside w .0) (inside w .1)) at (c .line-at2 .ensures) in
+    let v = rw (l .inv .1, l .inv .2, place-is w, first-is w, t-is w, value-line 1 (a .t) (a .t1) (a .count) (l .k) b (omega arith) (inside w .0) (inside w .1)) at (c .before .line-at .ensures) in
+    let u = rw (l .inv .1, l .inv .3, place-is w, second-is w, t-is w, value-line 2 (a .t) (a .t1) (a .count) (l .k) b (omega arith) (inside w .0) (inside w .1)) at (c .line-at2 .ensures) in
     rw (held (c .before .line-at .ok) v, held (c .line-at2 .ok) u)
 
 loop-again : tie.Need-loop-again Inv-loop μ-loop
@@ -97,9 +100,8 @@ loop-again c =
     let w = c .before in
     let a = at w .before .args in
     let k = at w .loop .k in
-    let more : (j : ℕ) → j < 3 → toZ w64 (ofZ w64 (read w j)) ≡ figureBefore j (a .t1) (k + 1) = λ j h. read-is w j h ∙ figure-before-more j (a .t1) k in
-    let passed = passed-more _ (a .t1) (a .count) k (at w .loop .inv .0) (inside w .0) (inside w .1) (rw (read-is w 0 (omega arith)) at (c .if2 .left)) in
-    (passed, more 0 (omega arith), more 1 (omega arith), more 2 (omega arith))
+    let passed = passed-more _ (a .t1) (a .count) k (at w .loop .inv .0) (inside w .0) (inside w .1) (rw (place-is w) at (c .if2 .left)) in
+    (passed, place-is w ∙ figure-before-more 0 (a .t1) k, first-is w ∙ figure-before-more 1 (a .t1) k, second-is w ∙ figure-before-more 2 (a .t1) k)
 
 -- past the count or past the rows, the row before k is the table's last
 end : (c : tie.At-loop Inv-loop μ-loop) → length (table (c .before)) ≤ c .loop .k → record { first = toZ w64 (c .loop .v1); second = toZ w64 (c .loop .w1) } ≡ interpolatedTwo (table (c .before)) (c .before .args .t)
