@@ -1,8 +1,19 @@
-//! Host tools: replay, comparison and measurement of converters behind `model::Converter`.
+//! Host tools: replay, comparison, measurement and simulation of converters behind `model::Converter`.
+
+#![deny(unsafe_code)]
 
 #[cfg(feature = "archive")]
+#[allow(unsafe_code)] // the library's C interface
 pub mod archive;
 pub mod generate;
+pub mod line;
+#[cfg(feature = "archive")]
+#[allow(unsafe_code)] // calls of the C library
+pub mod pty;
+pub mod readings;
+pub mod refusals;
+#[cfg(feature = "archive")]
+pub mod simulator;
 
 pub use model::Converter;
 

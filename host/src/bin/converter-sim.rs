@@ -1,0 +1,107 @@
+//! converter-sim SHEET STATION: the proved converter as a Modbus RTU device on a pseudo-terminal.
+
+use host::archive::Device;
+use host::line::Line;
+use host::pty::Pty;
+use host::readings::Profile;
+use host::refusals::meaning;
+use host::simulator::{Simulator, Source};
+use host::Converter;
+use model::sheet::LONGEST;
+use model::Figures;
+use std::fs::File;
+use std::io::{self, Read, Write};
+use std::os::fd::AsFd;
+use std::{env, process::ExitCode};
+
+const USAGE: &str = "\
+converter-sim SHEET STATION [--profile fill|still | --readings -] [--baud N] [--verbose]
+
+Serves Modbus RTU on a pseudo-terminal, whose name it prints.
+  SHEET              a file of sheet bytes, or the word default: 001's default sheet
+  STATION            1 to 247
+  --profile fill     a hopper that fills and empties in 60 s, 10 readings a second (the default)
+  --profile still    100 % at 20 degrees, 10 readings a second
+  --readings -       readings from standard input, a line each: ELEC TEMP INTEGRITY, in steps (1 % and 1 degree are 65536)
+  --baud N           the rate that t3.5, the silence behind a frame, is taken from (9600)
+  --verbose          each frame, its number and the reply on standard error";
+
+struct Arguments {
+    sheet: String,
+    station: u8,
+    baud: u32,
+    /// No profile: from standard input.
+    profile: Option<Profile>,
+    verbose: bool,
+}
+
+/// None: bad usage.
+fn arguments(words: impl Iterator<Item = String>) -> Option<Arguments> {
+    let (mut plain, mut source, mut baud, mut verbose) = (Vec::new(), None, 9_600, false);
+    let mut words = words;
+    while let Some(word) = words.next() {
+        match word.as_str() {
+            "--verbose" => verbose = true,
+            "--baud" => baud = words.next()?.parse().ok().filter(|&baud| baud > 0)?,
+            "--profile" if source.is_none() => source = Some(Some(Profile::named(&words.next()?)?)),
+            "--readings" if source.is_none() && words.next()? == "-" => source = Some(None),
+            option if option.starts_with('-') => return None,
+            _ => plain.push(word),
+        }
+    }
+    let [sheet, station] = plain.try_into().ok()?;
+    // The library takes a byte and refuses 255 as it would any number above.
+    let station = station.parse::<u64>().ok()?.try_into().unwrap_or(u8::MAX);
+    Some(Arguments { sheet, station, baud, profile: source.unwrap_or(Some(Profile::Fill)), verbose })
+}
+
+/// The sheet's bytes. One byte past the longest sheet is enough to see that bytes trail.
+fn sheet_bytes(sheet: &str) -> io::Result<Vec<u8>> {
+    if sheet == "default" {
+        return Ok(host::generate::sheet(&Figures::standard()));
+    }
+    let mut bytes = Vec::new();
+    File::open(sheet)?.take(LONGEST as u64 + 1).read_to_end(&mut bytes)?;
+    Ok(bytes)
+}
+
+fn run(a: &Arguments) -> Result<(), String> {
+    let sheet = sheet_bytes(&a.sheet).map_err(|e| format!("{}: {e}", a.sheet))?;
+    let mut device = Device::default();
+    let number = device.make(&sheet, a.station);
+    if number != 0 {
+        return Err(format!("refused {number}\n{}", meaning(number)));
+    }
+    let failed = |e: io::Error| format!("the pseudo-terminal: {e}");
+    let source = match a.profile {
+        Some(profile) => Source::profile(profile),
+        // Not std's own reader: what that has buffered, poll does not see.
+        None => Source::text(io::stdin().as_fd().try_clone_to_owned().map_err(|e| format!("readings: {e}"))?.into()),
+    };
+    let pty = Pty::open().map_err(failed)?;
+    let mut out = io::stdout();
+    writeln!(out, "{}", pty.name()).and_then(|()| out.flush()).map_err(|e| format!("standard output: {e}"))?;
+    match Simulator::new(device, pty, Line::new(a.baud), source, a.verbose).serve() {
+        Ok(never) => match never {},
+        Err(e) => Err(failed(e)),
+    }
+}
+
+fn main() -> ExitCode {
+    let words: Vec<String> = env::args_os().skip(1).map(|w| w.to_string_lossy().into_owned()).collect();
+    if words.iter().any(|w| w == "--help") {
+        println!("{USAGE}");
+        return ExitCode::SUCCESS;
+    }
+    let Some(arguments) = arguments(words.into_iter()) else {
+        eprintln!("{USAGE}");
+        return ExitCode::from(2);
+    };
+    match run(&arguments) {
+        Ok(()) => ExitCode::SUCCESS,
+        Err(message) => {
+            eprintln!("{message}");
+            ExitCode::FAILURE
+        }
+    }
+}

@@ -1,0 +1,153 @@
+//! A converter on a pseudo-terminal: one thread that waits for bytes of the bus, for readings and for silences.
+
+use crate::line::Line;
+use crate::pty::{wait, Pty};
+use crate::readings::{parsed, Lines, Profile, Reading, RATE};
+use crate::refusals::meaning;
+use crate::Converter;
+use std::convert::Infallible;
+use std::fmt::Display;
+use std::fs::File;
+use std::io::{self, ErrorKind, Read, Write};
+use std::os::fd::{AsFd, BorrowedFd};
+use std::time::{Duration, Instant};
+
+/// Where readings come from.
+pub enum Source {
+    Profile { profile: Profile, tick: u64, due: Instant },
+    Text { input: Option<File>, lines: Lines },
+}
+
+impl Source {
+    /// A built-in profile, its first reading at once.
+    pub fn profile(profile: Profile) -> Source {
+        Source::Profile { profile, tick: 0, due: Instant::now() }
+    }
+
+    /// Lines of text, until they end.
+    pub fn text(input: File) -> Source {
+        Source::Text { input: Some(input), lines: Lines::default() }
+    }
+
+    fn due(&self) -> Option<Instant> {
+        match self {
+            Source::Profile { due, .. } => Some(*due),
+            Source::Text { .. } => None,
+        }
+    }
+
+    fn input(&self) -> Option<BorrowedFd<'_>> {
+        match self {
+            Source::Profile { .. } => None,
+            Source::Text { input, .. } => input.as_ref().map(AsFd::as_fd),
+        }
+    }
+}
+
+pub struct Simulator<C> {
+    device: C,
+    pty: Pty,
+    line: Line,
+    source: Source,
+    verbose: bool,
+}
+
+impl<C: Converter> Simulator<C> {
+    /// A device that was made, on a terminal of its own.
+    pub fn new(device: C, pty: Pty, line: Line, source: Source, verbose: bool) -> Simulator<C> {
+        Simulator { device, pty, line, source, verbose }
+    }
+
+    /// Serve for ever; an error is the terminal's.
+    pub fn serve(&mut self) -> io::Result<Infallible> {
+        loop {
+            self.follow_profile(Instant::now());
+            let until = [self.line.ends(), self.source.due()].into_iter().flatten().min();
+            let time = until.map(|t| t.saturating_duration_since(Instant::now()));
+            let [bus, text] = wait([Some(self.pty.master().as_fd()), self.source.input()], time)?;
+            // Readings first: one that was handed in before a frame counts for it.
+            if text {
+                self.read_text();
+            }
+            // Then the frame that a silence ended, before bytes that came after the silence.
+            self.answer(Instant::now());
+            if bus {
+                self.receive()?;
+            }
+        }
+    }
+
+    fn follow_profile(&mut self, now: Instant) {
+        let Source::Profile { profile, tick, due } = &mut self.source else { return };
+        if now >= *due {
+            let reading = profile.reading(*tick);
+            (*tick, *due) = (*tick + 1, now + Duration::from_millis(1_000 / RATE));
+            take(&mut self.device, reading);
+        }
+    }
+
+    fn read_text(&mut self) {
+        let Source::Text { input, lines } = &mut self.source else { return };
+        let Some(mut file) = input.as_ref() else { return };
+        let mut bytes = [0; 4_096];
+        let mut complete = |text: &str| match parsed(text) {
+            Some(reading) => take(&mut self.device, reading),
+            None => report(format_args!("not a reading (ELEC TEMP INTEGRITY): {text}")),
+        };
+        match file.read(&mut bytes) {
+            Ok(n @ 1..) => lines.add(&bytes[..n], complete),
+            Err(e) if matches!(e.kind(), ErrorKind::WouldBlock | ErrorKind::Interrupted) => {}
+            end => {
+                lines.end(&mut complete);
+                if let Err(e) = end {
+                    report(format_args!("readings: {e}"));
+                }
+                *input = None;
+            }
+        }
+    }
+
+    fn receive(&mut self) -> io::Result<()> {
+        let mut bytes = [0; 512];
+        match self.pty.master().read(&mut bytes) {
+            Ok(n) => self.line.receive(&bytes[..n], Instant::now()),
+            Err(e) if matches!(e.kind(), ErrorKind::WouldBlock | ErrorKind::Interrupted) => {}
+            Err(e) => return Err(e),
+        }
+        Ok(())
+    }
+
+    fn answer(&mut self, now: Instant) {
+        let Some(frame) = self.line.take(now) else { return };
+        let mut buffer = [0; 256];
+        let (number, length) = self.device.frame(frame, &mut buffer);
+        let reply = &buffer[..length];
+        if self.verbose {
+            report(format_args!("frame {}\n  {number} {}", hex(frame), meaning(number)));
+            report(format_args!("  reply {}", hex(reply)));
+        }
+        // As on a wire, what nobody takes is lost: a client that never reads fills the terminal's queue.
+        if length > 0 && !self.pty.master().write(reply).is_ok_and(|n| n == length) {
+            report("a reply was lost: the client does not read");
+        }
+    }
+}
+
+fn take<C: Converter>(device: &mut C, (elec, temp, integrity): Reading) {
+    let number = device.reading(elec, temp, integrity);
+    if number != 0 {
+        report(format_args!("reading {elec} {temp} {integrity}: refused {number}, {}", meaning(number)));
+    }
+}
+
+/// A line on standard error; a closed one does not stop the bus.
+fn report(line: impl Display) {
+    let _ = writeln!(io::stderr(), "{line}");
+}
+
+fn hex(bytes: &[u8]) -> String {
+    if bytes.is_empty() {
+        return "none".into();
+    }
+    bytes.iter().map(|b| format!("{b:02x}")).collect::<Vec<_>>().join(" ")
+}

@@ -1,0 +1,222 @@
+//! converter-sim as a client meets it: raw frames over its pseudo-terminal.
+//!
+//! The line runs at 600 baud, where t3.5 is 64 ms, so that a busy machine does not blur gaps and silences.
+
+use host::line::silence;
+use host::pty::{open_slave, wait};
+use host::{read_frame, sealed, write_frame};
+use std::fs::File;
+use std::io::{BufRead, BufReader, Read, Write};
+use std::os::fd::AsFd;
+use std::process::{Child, Command, Output, Stdio};
+use std::thread::sleep;
+use std::time::Duration;
+
+const BAUD: u32 = 600;
+const STATION: u8 = 52;
+const SYS: u16 = 20;
+const SZ: u16 = 44;
+/// 100 % at 20 degrees.
+const READING: &str = "6553600 1310720 0";
+/// What a read of SYS then gets: 42C80000, words swapped.
+const HUNDRED: [u8; 9] = [0x34, 3, 4, 0, 0, 0x42, 0xc8, 0xae, 0x06];
+/// Exception 2 to a read.
+const ADDRESS: [u8; 5] = [0x34, 0x83, 2, 0xd0, 0xff];
+
+fn command(arguments: &[&str]) -> Command {
+    let mut command = Command::new(env!("CARGO_BIN_EXE_converter-sim"));
+    command.args(arguments).stdin(Stdio::null()).stdout(Stdio::piped()).stderr(Stdio::piped());
+    command
+}
+
+/// A simulator and a client on its terminal. The simulator ends with the test.
+struct Bus {
+    simulator: Child,
+    name: String,
+    client: File,
+}
+
+impl Bus {
+    /// The default sheet, and readings that the test hands in.
+    fn start() -> Bus {
+        let baud = BAUD.to_string();
+        let mut command = command(&["default", "52", "--readings", "-", "--baud", &baud]);
+        let mut simulator = command.stdin(Stdio::piped()).spawn().expect("converter-sim starts");
+        let mut name = String::new();
+        let out = simulator.stdout.take().expect("its standard output");
+        BufReader::new(out).read_line(&mut name).expect("a line");
+        let client = open_slave(name.trim_end()).expect("the terminal opens");
+        Bus { simulator, name, client }
+    }
+
+    fn with_reading() -> Bus {
+        let mut bus = Bus::start();
+        bus.hand_in(READING);
+        bus
+    }
+
+    fn hand_in(&mut self, reading: &str) {
+        writeln!(self.simulator.stdin.as_mut().expect("its standard input"), "{reading}").expect("taken");
+    }
+
+    fn send(&mut self, bytes: &[u8]) {
+        self.client.write_all(bytes).expect("sent");
+    }
+
+    /// All that comes until the line has been silent for long.
+    fn replies(&mut self) -> Vec<u8> {
+        let mut all = Vec::new();
+        while wait([Some(self.client.as_fd())], Some(6 * silence(BAUD))).expect("waited")[0] {
+            let mut bytes = [0; 64];
+            let n = self.client.read(&mut bytes).expect("read");
+            all.extend(&bytes[..n]);
+        }
+        all
+    }
+
+    fn exchange(&mut self, frame: &[u8]) -> Vec<u8> {
+        self.send(frame);
+        self.replies()
+    }
+}
+
+impl Drop for Bus {
+    fn drop(&mut self) {
+        let _ = self.simulator.kill();
+        let _ = self.simulator.wait();
+    }
+}
+
+#[test]
+fn a_read_is_answered_for_each_client() {
+    let mut bus = Bus::with_reading();
+    assert_eq!(bus.exchange(&read_frame(STATION, SYS)), HUNDRED);
+    let name = bus.name.trim_end().to_string();
+    // The first client goes: with none there, the simulator keeps serving.
+    bus.client = File::open("/dev/null").expect("opened");
+    sleep(Duration::from_millis(100));
+    bus.client = open_slave(&name).expect("the terminal opens again");
+    assert_eq!(bus.exchange(&read_frame(STATION, SYS)), HUNDRED);
+}
+
+#[test]
+fn a_damaged_frame_is_not_answered() {
+    let mut bus = Bus::with_reading();
+    for bit in [0, 9, 63] {
+        let mut frame = read_frame(STATION, SYS);
+        frame[bit / 8] ^= 1 << (bit % 8);
+        assert_eq!(bus.exchange(&frame), []);
+    }
+    assert_eq!(bus.exchange(&read_frame(STATION, SYS)[..7]), []);
+    assert_eq!(bus.exchange(&read_frame(STATION + 1, SYS)), []);
+    assert_eq!(bus.exchange(&read_frame(STATION, SYS)), HUNDRED);
+}
+
+#[test]
+fn a_short_gap_joins_pieces() {
+    let mut bus = Bus::with_reading();
+    let frame = read_frame(STATION, SYS);
+    for piece in [&frame[..3], &frame[3..4]] {
+        bus.send(piece);
+        sleep(silence(BAUD) / 4);
+    }
+    bus.send(&frame[4..]);
+    assert_eq!(bus.replies(), HUNDRED);
+}
+
+#[test]
+fn a_silence_parts_frames() {
+    let mut bus = Bus::with_reading();
+    let frame = read_frame(STATION, SYS);
+    bus.send(&frame);
+    sleep(4 * silence(BAUD));
+    bus.send(&frame);
+    assert_eq!(bus.replies(), [HUNDRED, HUNDRED].concat());
+    // With no silence between them the two are one frame, with a wrong checksum.
+    assert_eq!(bus.exchange(&[&frame[..], &frame].concat()), []);
+}
+
+#[test]
+fn a_broadcast_acts_in_silence() {
+    let mut bus = Bus::with_reading();
+    assert_eq!(bus.exchange(&write_frame(0, SZ, 12.5_f32.to_bits())), []);
+    assert_eq!(bus.exchange(&read_frame(STATION, SZ)), sealed(vec![STATION, 3, 4, 0, 0, 0x41, 0x48]));
+    bus.hand_in(READING);
+    // SYS is 87.5.
+    assert_eq!(bus.exchange(&read_frame(STATION, SYS)), sealed(vec![STATION, 3, 4, 0, 0, 0x42, 0xaf]));
+    assert_eq!(bus.exchange(&read_frame(0, SYS)), []);
+    assert_eq!(bus.exchange(&write_frame(0, SZ, f32::NAN.to_bits())), []);
+}
+
+#[test]
+fn exceptions_have_their_codes() {
+    let mut bus = Bus::start();
+    assert_eq!(bus.exchange(&read_frame(STATION, SYS)), ADDRESS);
+    assert_eq!(bus.exchange(&write_frame(STATION, 206, 0)), sealed(vec![STATION, 0x90, 3]));
+    bus.hand_in(READING);
+    assert_eq!(bus.exchange(&read_frame(STATION, SYS)), HUNDRED);
+    assert_eq!(bus.exchange(&read_frame(STATION, 14)), ADDRESS);
+    assert_eq!(bus.exchange(&read_frame(STATION, 21)), ADDRESS);
+    assert_eq!(bus.exchange(&sealed(vec![STATION, 4])), [0x34, 0x84, 1, 0x92, 0xce]);
+    assert_eq!(bus.exchange(&sealed(vec![STATION, 3, 0, 20, 0, 4])), sealed(vec![STATION, 0x83, 3]));
+    assert_eq!(bus.exchange(&write_frame(STATION, SYS, 0)), sealed(vec![STATION, 0x90, 3]));
+}
+
+#[test]
+fn long_frames_are_not_answered() {
+    let mut bus = Bus::with_reading();
+    for length in [257, 1_024, 1_025, 20_000] {
+        bus.send(&sealed(vec![STATION; length - 2]));
+        assert_eq!(bus.replies(), []);
+    }
+    assert_eq!(bus.exchange(&read_frame(STATION, SYS)), HUNDRED);
+}
+
+#[test]
+fn unfit_readings_and_their_end_do_not_stop_it() {
+    let mut bus = Bus::with_reading();
+    for unfit in ["19660801 0 0", "0 0 2", "1 2", "weight"] {
+        bus.hand_in(unfit);
+    }
+    drop(bus.simulator.stdin.take());
+    assert_eq!(bus.exchange(&read_frame(STATION, SYS)), HUNDRED);
+    bus.simulator.kill().expect("ended");
+    let mut said = String::new();
+    bus.simulator.stderr.take().expect("standard error").read_to_string(&mut said).expect("text");
+    let said: Vec<&str> = said.lines().collect();
+    assert!(said[0].starts_with("reading 19660801 0 0: refused 9, bad reading"), "{said:?}");
+    assert!(said[1].starts_with("reading 0 0 2: refused 9"), "{said:?}");
+    assert_eq!(said[2..].iter().filter(|line| line.starts_with("not a reading")).count(), 2, "{said:?}");
+}
+
+fn ended(arguments: &[&str]) -> (Option<i32>, String) {
+    let Output { status, stdout, stderr } = command(arguments).output().expect("it runs");
+    assert!(stdout.is_empty());
+    (status.code(), String::from_utf8(stderr).expect("text"))
+}
+
+#[test]
+fn what_is_turned_down_and_bad_usage() {
+    for station in ["0", "248", "255", "256", "1000"] {
+        let (code, said) = ended(&["default", station]);
+        assert_eq!((code, said.starts_with("refused 8\nstation: not 1 to 247")), (Some(1), true), "{said}");
+    }
+    let (code, said) = ended(&["/dev/null", "52"]);
+    assert_eq!((code, said.starts_with("refused 1\nshort sheet")), (Some(1), true), "{said}");
+    assert_eq!(ended(&["/dev/zero", "52"]).1.lines().next(), Some("refused 2"));
+    assert_eq!(ended(&["/no/such/sheet", "52"]).0, Some(1));
+    let wrong: [&[&str]; 8] = [
+        &[],
+        &["default"],
+        &["default", "weight"],
+        &["default", "52", "53"],
+        &["default", "52", "--baud", "0"],
+        &["default", "52", "--profile", "empty"],
+        &["default", "52", "--readings", "-", "--profile", "fill"],
+        &["default", "52", "--readings", "file"],
+    ];
+    for arguments in wrong {
+        let (code, said) = ended(arguments);
+        assert_eq!((code, said.starts_with("converter-sim SHEET STATION")), (Some(2), true), "{arguments:?}");
+    }
+}
