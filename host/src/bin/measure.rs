@@ -1,6 +1,5 @@
-//! measure: ns per call for each kind of call, and the sizes of the records.
-//! measure KIND N [model|archive]: runs one kind N times, for instruction counts:
-//!   valgrind --tool=callgrind measure full 20000 model, less the same with 10000, by 10000.
+//! measure: a table of ns per call for each kind of call, and the sizes of the records.
+//! measure KIND N [model|archive]: runs one kind N times; host/benchmark counts its instructions.
 
 use host::generate::{sheet, Rng};
 use host::{read_frame, write_frame, Converter, Other, WITH_ARCHIVE};
@@ -65,19 +64,38 @@ fn run<C: Converter>(kind: &str, n: usize) -> f64 {
     seconds
 }
 
-/// ns per call: the least and the middle of 41 short passes, the two taking turns.
+const PASSES: usize = 41;
+
+/// ns per call of the model and the archive: the least and the middle of short passes, the two taking turns.
 fn passes(kind: &str) -> [(f64, f64); 2] {
     const N: usize = 10_240;
     let ns = |seconds: f64| seconds * 1e9 / N as f64;
     let mut both = [Vec::new(), Vec::new()];
-    for _ in 0..41 {
+    for _ in 0..PASSES {
         both[0].push(ns(run::<model::Device>(kind, N)));
         both[1].push(ns(run::<Other>(kind, N)));
     }
     both.map(|mut pass| {
         pass.sort_by(f64::total_cmp);
-        (pass[0], pass[20])
+        (pass[0], pass[PASSES / 2])
     })
+}
+
+/// Archive and model side by side, as a table in markdown.
+fn table() {
+    let row = |name: &str, archive: String, model: String, ratio: f64| {
+        let (archive, ratio) =
+            if WITH_ARCHIVE { (archive, format!("{ratio:.2}")) } else { ("not linked".into(), "–".into()) };
+        println!("| {name} | {archive} | {model} | {ratio} |");
+    };
+    println!("| Per call | Archive, ns: least (middle) of {PASSES} passes | Model, ns | Ratio |\n|---|---|---|---|");
+    for (kind, name) in KINDS {
+        let [model, archive] = passes(kind);
+        let shown = |(least, middle)| format!("{least:.1} ({middle:.1})");
+        row(name, shown(archive), shown(model), archive.0 / model.0);
+    }
+    let (archive, model) = (size_of::<Other>(), size_of::<model::Device>());
+    row("bytes of the record", archive.to_string(), model.to_string(), archive as f64 / model as f64);
 }
 
 fn main() -> ExitCode {
@@ -93,19 +111,6 @@ fn main() -> ExitCode {
         println!("{kind}: {n} calls in {:.6} s", seconds);
         return ExitCode::SUCCESS;
     }
-    println!("ns per call, least (middle) of 41 passes");
-    for (kind, name) in KINDS {
-        let [(model, middle), (archive, archive_middle)] = passes(kind);
-        print!("{name:32} model {model:6.1} ({middle:6.1})");
-        if WITH_ARCHIVE {
-            print!("   archive {archive:6.1} ({archive_middle:6.1})   ratio {:.2}", archive / model);
-        }
-        println!();
-    }
-    print!("{:32} model {:6}", "bytes of the record", size_of::<model::Device>());
-    if WITH_ARCHIVE {
-        print!("            archive {:6}", size_of::<Other>());
-    }
-    println!();
+    table();
     ExitCode::SUCCESS
 }
