@@ -22,7 +22,7 @@ Serves Modbus RTU on a pseudo-terminal, whose name it prints.
   STATION            1 to 247
   --profile fill     a hopper that fills and empties in 60 s, 10 readings a second (the default)
   --profile still    100 % at 20 degrees, 10 readings a second
-  --readings -       readings from standard input, a line each: ELEC TEMP INTEGRITY, in steps (1 % and 1 degree are 65536)
+  --readings -       readings from standard input, a line each: ELEC TEMP INTEGRITY, in steps of 1/65536
   --baud N           the rate that t3.5, the silence behind a frame, is taken from (9600)
   --verbose          each frame, its number and the reply on standard error";
 
@@ -44,7 +44,10 @@ fn arguments(words: impl Iterator<Item = String>) -> Option<Arguments> {
             "--verbose" => verbose = true,
             "--baud" => baud = words.next()?.parse().ok().filter(|&baud| baud > 0)?,
             "--profile" if source.is_none() => source = Some(Some(Profile::named(&words.next()?)?)),
-            "--readings" if source.is_none() && words.next()? == "-" => source = Some(None),
+            "--readings" if source.is_none() => {
+                words.next().filter(|from| from == "-")?;
+                source = Some(None);
+            }
             option if option.starts_with('-') => return None,
             _ => plain.push(word),
         }
