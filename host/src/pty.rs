@@ -79,7 +79,7 @@ pub fn open_slave(name: &str) -> io::Result<File> {
     OpenOptions::new().read(true).write(true).custom_flags(O_NOCTTY).open(name)
 }
 
-/// Wait until a descriptor can be read (or is at its end), or until the time is over; says which can. No time: for ever.
+/// Wait until a descriptor can be read (or is at its end) or the time is over; says which can. No time: for ever.
 pub fn wait<const N: usize>(descriptors: [Option<BorrowedFd>; N], time: Option<Duration>) -> io::Result<[bool; N]> {
     // A negative descriptor is passed over.
     let mut fds = descriptors.map(|d| PollFd { fd: d.map_or(-1, |d| d.as_raw_fd()), events: POLLIN, revents: 0 });
