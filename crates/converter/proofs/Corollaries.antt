@@ -22,7 +22,7 @@ use Rattle.modbus.proofs.Replies.{length-framed}
 use Rattle.modbus.specs.declared.frame.Frame.{Frame}
 use Rattle.modbus.specs.declared.frame.Frame.the-variants.{Write, Read, Act}
 use Rattle.state.specs.Reading.{badReading, taken}
-use Rattle.state.specs.Request.{requested, setupBy, stateBy, fresh, snapped, peaksAt, peaksReset}
+use Rattle.state.specs.Request.{requested, zeroBy, setupBy, stateBy, fresh, snapped, peaksAt, peaksReset}
 use Rattle.state.specs.Register.{stepsAt, readingFloat, readingAt, registerAt, onReading, answered, numberOf}
 use Rattle.state.specs.Report.{reported}
 use Rattle.state.specs.declared.State.{State}
@@ -44,7 +44,7 @@ unless-any d true t h = absurd (h refl)
 unless-any d false t h = refl
 
 obeyed-unchanged : (d : Device) (sz : ℤ) (q : Request) → (numberOf (answered (d .state) sz q) ≡ 0 → ⊥) → obeyed d q ≡ d
-unfolding setupBy stateBy answered onReading snapped peaksReset
+unfolding zeroBy stateBy answered onReading snapped peaksReset
 obeyed-unchanged d sz (Refuse n) h = refl
 obeyed-unchanged d sz (Show n) h = refl
 obeyed-unchanged d sz (Flag m) h = absurd (h refl)
@@ -197,7 +197,7 @@ module _ (d : Device) (s : List ℕ) (room : ℕ) where
 
   -- "SNAP copies SYS to SYSN"
   pub snap-shown : judged s room (d .setup .station) ≡ Act 103 → d .state .readings .any ≡ true → Shows after 23 (stepFloat (d .state .readings .values .sys))
-  unfolding requested setupBy stateBy snapped registerAt
+  unfolding requested zeroBy stateBy snapped registerAt
   snap-shown e any =
       let t = d .state in
       let taken : State = record { readings = t .readings; flag = t .flag; snapshot = record { taken = true; sysn = t .readings .values .sys } } in
@@ -205,17 +205,17 @@ module _ (d : Device) (s : List ℕ) (room : ℕ) where
 
   -- a written SZ
   pub zero-shown : (x : Float) → judged s room (d .setup .station) ≡ Write 22 x → Shows after 22 (stepFloat (zeroSteps x)) × (after .state ≡ d .state)
-  unfolding requested setupBy stateBy registerAt
+  unfolding requested zeroBy stateBy registerAt
   zero-shown x e = (subst (λ (g : Device). Shows g 22 (stepFloat (zeroSteps x))) (sym (obeys (Write 22 x) e)) refl, ap (λ (g : Device). g .state) (obeys (Write 22 x) e))
 
   -- "a FLAG write clears the bits it lacks"
   pub flag-shown : (x : Float) → judged s room (d .setup .station) ≡ Write 14 x → Shows after 14 (wholeFloat (bitAnd (d .state .flag) (flagWhole x)))
-  unfolding requested setupBy stateBy registerAt
+  unfolding requested zeroBy stateBy registerAt
   flag-shown x e = subst (λ (g : Device). Shows g 14 (wholeFloat (bitAnd (d .state .flag) (flagWhole x)))) (sym (obeys (Write 14 x) e)) refl
 
   -- "RST forgets readings, snapshot and filter", keeps SZ and leaves FLAG 32768: the device is one just started
   pub rst-starts : judged s room (d .setup .station) ≡ Act 100 → after ≡ started (d .setup)
-  unfolding requested setupBy stateBy
+  unfolding requested zeroBy stateBy
   rst-starts e = obeys (Act 100) e
 
   -- so the next reads show REBOOT, the SZ that was in force and no snapshot, and a report is refused
@@ -231,7 +231,7 @@ module _ (d : Device) (s : List ℕ) (room : ℕ) where
   -- "a peak reset, which sets both to the present SYS"
   pub peaks-shown : judged s room (d .setup .station) ≡ Act 104 → d .state .readings .any ≡ true
       → Shows after 24 (stepFloat (d .state .readings .values .sys)) × Shows after 25 (stepFloat (d .state .readings .values .sys))
-  unfolding requested setupBy stateBy peaksReset registerAt readingAt readingFloat stepsAt
+  unfolding requested zeroBy stateBy peaksReset registerAt readingAt readingFloat stepsAt
   peaks-shown e any =
       let t = d .state in
       let reset : State = record { readings = peaksAt (t .readings); flag = t .flag; snapshot = t .snapshot } in

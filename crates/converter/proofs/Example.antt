@@ -22,7 +22,7 @@ use Rattle.modbus.specs.Register.{accessOf}
 use Rattle.modbus.specs.Frame.{checked, toUs, forUs, accessAsked, writeOf, writeAsked, judged}
 use Rattle.state.specs.Reading as reading
 use Rattle.state.specs.Reading.{outside, badReading, larger, smaller, peakAfter, trofAfter, joined}
-use Rattle.state.specs.Request.{requested, setupBy, fresh, snapped, stateBy}
+use Rattle.state.specs.Request.{requested, zeroBy, fresh, snapped, stateBy}
 use Rattle.converter.specs.Making.{stationFits, started, made}
 use Rattle.converter.specs.Call as call
 use Rattle.converter.specs.Call.{Call, run}
@@ -56,7 +56,7 @@ pub record Example (d : Device) : Type 0 where
   pub sz : d .setup .figures .system .sz ≡ pos 655360
 
 pub example : Example (run start calls)
-unfolding roundDiv floorDiv between interpolated defaultSheet temperatures linearities hold filtered scaled o g y rawCell craw cell rawSystem sraw sys bitAt statOf valuesOf zeroFits nearestStep zeroSteps ofBits shifted shifts taken accessOf checked toUs forUs accessAsked writeOf writeAsked judged outside badReading larger smaller peakAfter trofAfter joined reading.taken requested setupBy fresh snapped stateBy
+unfolding roundDiv floorDiv between interpolated defaultSheet temperatures linearities hold filtered scaled o g y rawCell craw cell rawSystem sraw sys bitAt statOf valuesOf zeroFits nearestStep zeroSteps ofBits shifted shifts taken accessOf checked toUs forUs accessAsked writeOf writeAsked judged outside badReading larger smaller peakAfter trofAfter joined reading.taken requested zeroBy fresh snapped stateBy
 example = record {
   reached = record { sheet = sheetBytes defaultSheet; station = 52; accepted = ap (λ (r : Outcome). r .number) default-made; calls = calls; is = sym (ap (λ (r : Outcome). run (r .device) calls) default-made) };
   reading = refl;

@@ -15,7 +15,7 @@ use Rattle.compensation.specs.Values.{valuesOf}
 use Rattle.compensation.specs.declared.steps.Values.{Values}
 use Rattle.compensation.proofs.Faithful.{faithful}
 use Rattle.state.specs.Reading.{badReading, peakAfter, trofAfter, joined, heldAfter, taken}
-use Rattle.state.specs.Request.{reboot, setupBy, fresh, snapped, peaksAt, peaksReset, stateBy}
+use Rattle.state.specs.Request.{reboot, zeroBy, setupBy, fresh, snapped, peaksAt, peaksReset, stateBy}
 use Rattle.state.specs.declared.Setup.{Setup}
 use Rattle.state.specs.declared.Readings.{Readings}
 use Rattle.state.specs.declared.State.{State}
@@ -181,7 +181,7 @@ snap-leaves s = go (s .readings .any)
     go false = (refl, refl)
 
 obeys : (d : Device) (l : Log) → Tracks d l → (q : Request) → Sound (obeyed d q) → Tracks (obeyed d q) (heed l q)
-unfolding setupBy stateBy
+unfolding zeroBy stateBy
 obeys d l t (Refuse n) h = t
 obeys d l t (Show r) h = t
 obeys d l t (Flag m) h = record { setup-is = t .setup-is; tells = t .tells; latched = λ b. latch-kept b (d .state .flag) m (l .events) (t .latched b); sound = h }

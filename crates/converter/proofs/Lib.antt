@@ -6,6 +6,7 @@ pub mod Made
 pub mod Sound
 pub mod History
 pub mod Reached
+pub mod Entries
 pub mod Corollaries
 pub mod Example
 pub mod Starred

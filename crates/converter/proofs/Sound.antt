@@ -24,7 +24,7 @@ use Rattle.binary32.proofs.Bounded.{zero-within}
 use Rattle.modbus.specs.declared.frame.Frame.{Frame}
 use Rattle.modbus.specs.declared.frame.Frame.the-variants.{Write, Read, Act, Refused}
 use Rattle.state.specs.Reading.{tempMost, outside, beyond, badReading, larger, smaller, peakAfter, trofAfter, joined, heldAfter, taken}
-use Rattle.state.specs.Request.{requested, withZero, setupBy, noReadings, fresh, snapped, peaksAt, peaksReset, stateBy}
+use Rattle.state.specs.Request.{requested, withZero, zeroBy, setupBy, noReadings, fresh, snapped, peaksAt, peaksReset, stateBy}
 use Rattle.state.specs.Register.{valueMost, ReadingsWithin, StateWithin}
 use Rattle.state.specs.declared.Setup.{Setup}
 use Rattle.state.specs.declared.Readings.{Readings}
@@ -150,7 +150,7 @@ zero-acceptable c z ok h = record {
 }
 
 setup-sound : (s : Setup) (q : Request) → RequestSound q → Acceptable (s .figures) → Acceptable (setupBy s q .figures)
-unfolding setupBy
+unfolding zeroBy
 setup-sound s (Refuse n) g h = h
 setup-sound s (Show r) g h = h
 setup-sound s (Flag m) g h = h

@@ -7,7 +7,10 @@ use lib.IntN.{ℤ}
 use lib.ListN.{length}
 use Rattle.modbus.specs.Reply.{Replied}
 use Rattle.converter.specs.Making.{made}
-use Rattle.converter.specs.Call.{Call, reading, frame, step, run, number, reply}
+use Rattle.state.specs.Register.{numberOf}
+use Rattle.state.specs.declared.registers.Answer.{Answer}
+use Rattle.converter.specs.Call.{Call, reading, frame, step, run, number, replyWith, reply}
+use Rattle.converter.specs.declared.bus.Answered.{Answered}
 use Rattle.converter.specs.declared.Device.{Device}
 use Rattle.converter.specs.declared.Outcome.{Outcome}
 use Rattle.converter.specs.declared.Served.{Served}
@@ -28,7 +31,12 @@ pub record Reading (d : Device) (elec temp : ℤ) (integrity : ℕ) (r : Outcome
   pub is : r ≡ record { number = number d (reading elec temp integrity); device = step d (reading elec temp integrity) }
   pub reached : Reached (r .device)
 
--- a frame: the buffer holds `before` and then `after`
+-- an answer on the bus: the buffer holds `before` and then `after`
+pub record Answering (a : Answer) (bytes before after : List ℕ) (r : Answered) : Type 0 where
+  pub number-is : r .number ≡ numberOf a
+  pub replied : Replied (replyWith bytes (length before) a) before after (r .length)
+
+-- a frame
 pub record Serving (d : Device) (bytes before after : List ℕ) (r : Served) : Type 0 where
   pub number-is : r .number ≡ number d (frame bytes (length before))
   pub device-is : r .device ≡ step d (frame bytes (length before))

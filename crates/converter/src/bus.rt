@@ -1,14 +1,31 @@
-// What the bus does with a device (01, "The bus").
+// What the bus does with the parts of a device (01, "The bus").
 ghost use mathlib.Core.Path.{_≡_};
 ghost use lib.ListN.{length};
+ghost use Rattle.modbus.specs.Frame.{judged};
 ghost use Rattle.modbus.specs.Reply.{Replied};
+ghost use Rattle.state.specs.Request.{requested};
 ghost use Rattle.state.specs.Register.{answered, numberOf, StateWithin};
-ghost use Rattle.converter.specs.Call.{obeyed, replyWith};
-use crate::Device;
+ghost use Rattle.converter.specs.Call.{replyWith};
+ghost use Rattle.converter.specs.Reached.{Answering};
 use state::Answer;
 use state::Request;
+use state::State;
 
-pub fn number_in(answer: Answer) -> u8
+// The number, 0 where the frame was obeyed, and the length replied, 0 for none.
+#[repr(C)]
+pub struct Answered {
+    pub number: u8,
+    pub length: usize,
+}
+
+// What a frame asks of a station's device, given the room for a reply.
+pub fn asked(frame: &[u8], room: usize, station: u8) -> Request
+    ensures { λ r. ⌜ r ≡ requested (judged (now (frame .entry)) room station) ⌝ }
+{
+    state::request_of(modbus::frame::judge(frame, room, station))
+}
+
+fn number_in(answer: Answer) -> u8
     ensures { λ r. ⌜ r ≡ numberOf answer ⌝ }
 {
     match answer {
@@ -19,7 +36,7 @@ pub fn number_in(answer: Answer) -> u8
 }
 
 // The length of the reply, 0 for none.
-pub fn reply_with(frame: &[u8], reply: &mut [u8], answer: Answer) -> usize
+fn reply_with(frame: &[u8], reply: &mut [u8], answer: Answer) -> usize
     ensures { λ r. ⌜ Replied (replyWith (now (frame .entry)) (length (now (reply .entry))) answer) (now (reply .entry)) (now (reply .exit)) r ⌝ }
 {
     match answer {
@@ -29,20 +46,13 @@ pub fn reply_with(frame: &[u8], reply: &mut [u8], answer: Answer) -> usize
     }
 }
 
-pub fn answer_of(device: Device, request: Request) -> Answer
-    requires { ⌜ StateWithin (device .state) (device .setup .figures .system .sz) ⌝ }
-    ensures { λ r. ⌜ r ≡ answered (device .state) (device .setup .figures .system .sz) request ⌝ }
+// The request answered, and the reply written.
+pub fn answer(state: State, sz: i64, request: Request, frame: &[u8], reply: &mut [u8]) -> Answered
+    requires { ⌜ StateWithin state sz ⌝ }
+    ensures { λ r. ⌜ Answering (answered state sz request) (now (frame .entry)) (now (reply .entry)) (now (reply .exit)) r ⌝ }
 {
-    let setup = device.setup;
-    let figures = setup.figures;
-    let system = figures.system;
-    state::answer_to(device.state, system.sz, request)
-}
-
-pub fn obey(device: Device, request: Request) -> Device
-    ensures { λ r. ⌜ r ≡ obeyed device request ⌝ }
-{
-    let setup = state::setup_after(device.setup, request);
-    let state = state::state_after(device.state, request);
-    Device { setup, state }
+    let answer = state::answer_to(state, sz, request);
+    let length = reply_with(frame, reply, answer);
+    let number = number_in(answer);
+    Answered { number, length }
 }

@@ -7,6 +7,9 @@ ghost use Rattle.converter.specs.Reached.{Reached, Making, Reading, Serv
 mod bus;
 mod making;
 
+pub use bus::Answered;
+pub use bus::answer;
+pub use bus::asked;
 use state::Reported;
 use state::Setup;
 use state::State;
@@ -83,15 +86,17 @@ impl Device {
         requires { ⌜ Reached self ⌝ }
         ensures { λ r. ⌜ Serving self (now (frame .entry)) (now (reply .entry)) (now (reply .exit)) r ⌝ }
     {
-        let setup = self.setup;
-        let request = state::request_of(modbus::frame::judge(frame, reply.len(), setup.station));
-        let answer = bus::answer_of(self, request);
-        let length = bus::reply_with(frame, reply, answer);
-        let number = bus::number_in(answer);
-        let device = bus::obey(self, request);
+        let before = self.setup;
+        let figures = before.figures;
+        let system = figures.system;
+        let request = bus::asked(frame, reply.len(), before.station);
+        let answered = bus::answer(self.state, system.sz, request, frame, reply);
+        let setup = state::setup_after(before, request);
+        let state = state::state_after(self.state, request);
+        let device = Device { setup, state };
         Served {
-            number,
-            length,
+            number: answered.number,
+            length: answered.length,
             device,
         }
     }

@@ -1,6 +1,6 @@
 -- What a frame asks of a device, and what becomes of the device (01, "The bus"): "SNAP copies SYS to SYSN. RST forgets readings,
 -- snapshot and filter."
-use mathlib.Core.Bool.{true, false, cond}
+use mathlib.Core.Bool.{Bool, true, false, cond}
 use Prim.Native.Nat.{ℕ}
 use lib.Bits.{bitAnd}
 use lib.Dec.{eqb}
@@ -37,15 +37,19 @@ withZero c z = record {
   filter = c .filter;
 }
 
--- what a request makes of them; "RST keeps it". The log uses it too.
-unfoldable pub setupBy : Setup → Request → Setup
-setupBy s (Refuse n) = s
-setupBy s (Show r) = s
-setupBy s (Flag kept) = s
-setupBy s (Zero z) = record { figures = withZero (s .figures) z; station = s .station }
-setupBy s Rst = s
-setupBy s Snap = s
-setupBy s PeakReset = s
+-- SZ after a request; "RST keeps it"
+unfoldable pub zeroBy : ℤ → Request → ℤ
+zeroBy sz (Refuse n) = sz
+zeroBy sz (Show r) = sz
+zeroBy sz (Flag kept) = sz
+zeroBy sz (Zero z) = z
+zeroBy sz Rst = sz
+zeroBy sz Snap = sz
+zeroBy sz PeakReset = sz
+
+-- what a request makes of them. The log uses it too.
+abbrev pub setupBy : Setup → Request → Setup
+setupBy s q = record { figures = withZero (s .figures) (zeroBy (s .figures .system .sz) q); station = s .station }
 
 -- ---- all else
 
@@ -88,3 +92,13 @@ stateBy s (Zero z) = s
 stateBy s Rst = fresh
 stateBy s Snap = snapped s
 stateBy s PeakReset = peaksReset s
+
+-- any other request leaves it as it is (`state-unchanged`, `proofs/Unchanged.antt`)
+unfoldable pub changesState : Request → Bool
+changesState (Refuse n) = false
+changesState (Show r) = false
+changesState (Flag kept) = true
+changesState (Zero z) = false
+changesState Rst = true
+changesState Snap = true
+changesState PeakReset = true

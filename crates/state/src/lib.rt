@@ -15,10 +15,12 @@ pub use reporting::Report;
 pub use reporting::Reported;
 pub use reporting::report_of;
 pub use requests::Request;
+pub use requests::changes_state;
 pub use requests::fresh;
 pub use requests::request_of;
 pub use requests::setup_after;
 pub use requests::state_after;
+pub use requests::zero_after;
 
 // The figures in force, SZ as last written among them, and the station.
 #[repr(C)]

@@ -1,6 +1,6 @@
 // What a frame asks of a device, and what becomes of the device (01, "The bus"). Bytes and numbers are judged before (`modbus`).
 ghost use mathlib.Core.Path.{_≡_};
-ghost use Rattle.state.specs.Request.{requested, fresh as freshState, setupBy, stateBy, snapped, peaksReset};
+ghost use Rattle.state.specs.Request.{requested, fresh as freshState, zeroBy, setupBy, changesState, stateBy, snapped, peaksReset};
 use crate::Readings;
 use crate::Setup;
 use crate::Snapshot;
@@ -123,20 +123,37 @@ pub fn state_after(state: State, request: Request) -> State
     }
 }
 
-// What it makes of the figures in force.
+// Can it change anything but the figures in force? A record that is kept in place is written only then.
+pub fn changes_state(request: Request) -> bool
+    ensures { λ r. ⌜ r ≡ changesState request ⌝ }
+{
+    match request {
+        Request::Refuse(_) => false,
+        Request::Show(_) => false,
+        Request::Zero(_) => false,
+        _ => true,
+    }
+}
+
+// SZ after it.
+pub fn zero_after(sz: i64, request: Request) -> i64
+    ensures { λ r. ⌜ r ≡ zeroBy sz request ⌝ }
+{
+    match request {
+        Request::Zero(steps) => steps,
+        _ => sz,
+    }
+}
+
+// The figures in force after it.
 pub fn setup_after(setup: Setup, request: Request) -> Setup
     ensures { λ n. ⌜ n ≡ setupBy setup request ⌝ }
 {
-    match request {
-        Request::Zero(sz) => {
-            let mut figures = setup.figures;
-            let mut system = figures.system;
-            system.sz = sz;
-            figures.system = system;
-            let mut next = setup;
-            next.figures = figures;
-            next
-        }
-        _ => setup,
-    }
+    let mut figures = setup.figures;
+    let mut system = figures.system;
+    system.sz = zero_after(system.sz, request);
+    figures.system = system;
+    let mut next = setup;
+    next.figures = figures;
+    next
 }
