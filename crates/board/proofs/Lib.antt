@@ -1,4 +1,4 @@
 mod Field
 mod Kept
+mod Record
 mod Outcome
-mod Served

@@ -3,15 +3,9 @@
 ghost use mathlib.Core.Path.{_≡_};
 ghost use Rattle.state.specs.Report.{reported};
 ghost use Rattle.converter.specs.Reached.{Reached, Making, Reading, Serving};
+use converter::Answered;
 use converter::Device;
 use state::Reported;
-
-// The number, 0 where the frame was obeyed, and the length replied, 0 for none.
-#[repr(C)]
-pub struct Answered {
-    pub number: u8,
-    pub length: usize,
-}
 
 // A device of a calibration sheet and a station, into a record that may hold anything before: 0, or 8, then 1 to 7. A refused making
 // leaves a record of zeros, which is no device.
@@ -30,9 +24,11 @@ pub extern "C" fn converter_reading(device: &mut Device, elec: i64, temp: i64, i
     requires { ⌜ Reached (now device) ⌝ }
     ensures { λ r. ⌜ Reading (now (device .entry)) elec temp integrity (record { number = r; device = now (device .exit) }) ⌝ }
 {
-    let outcome = Device::reading(*device, elec, temp, integrity);
-    *device = outcome.device;
-    outcome.number
+    if state::bad_reading(elec, temp, integrity) {
+        return 9;
+    }
+    device.state = state::take(device.setup.figures, device.state, elec, temp, integrity);
+    0
 }
 
 // A bus frame, and a buffer for the reply, of which the bytes past the reply stay as they are: 0, or 10 to 16.
@@ -41,12 +37,19 @@ pub extern "C" fn converter_frame(device: &mut Device, frame: &[u8], reply: &mut
     requires { ⌜ Reached (now device) ⌝ }
     ensures { λ r. ⌜ Serving (now (device .entry)) (now (frame .entry)) (now (reply .entry)) (now (reply .exit)) (record { number = r .number; length = r .length; device = now (device .exit) }) ⌝ }
 {
-    let served = Device::frame(*device, frame, reply);
-    *device = served.device;
-    Answered {
-        number: served.number,
-        length: served.length,
+    let request = converter::asked(frame, reply.len(), device.setup.station);
+    let answered = converter::answer(
+        device.state,
+        device.setup.figures.system.sz,
+        request,
+        frame,
+        reply,
+    );
+    device.setup.figures.system.sz = state::zero_after(device.setup.figures.system.sz, request);
+    if state::changes_state(request) {
+        device.state = state::state_after(device.state, request);
     }
+    answered
 }
 
 // SYS, PEAK, TROF and CELL of the readings: 0, or 10, and 0.0 each. The record stays as it is.
