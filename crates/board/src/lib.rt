@@ -1,5 +1,6 @@
 // The entries that firmware links (01): "A board keeps one device record for months, and each frame updates that record". Each takes
-// the lent record apart, calls the by-value entry of `converter`, and stores the device that it gives.
+// the lent record apart, calls functions over its parts, by value, and stores only what the call can change. Contracts are those of
+// `converter`'s entries, read at entry and exit.
 ghost use mathlib.Core.Path.{_≡_};
 ghost use Rattle.state.specs.Report.{reported};
 ghost use Rattle.converter.specs.Reached.{Reached, Making, Reading, Serving};
