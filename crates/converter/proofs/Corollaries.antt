@@ -3,7 +3,7 @@
 use mathlib.Core.Path.{_≡_, refl, sym, ap, _∙_, subst}
 use mathlib.Core.Bool.{Bool, true, false, cond, _||_, _&&_}
 use mathlib.Core.List.{List, [], _∷_, _++_}
-use Prim.Native.Nat.{ℕ}
+use Prim.Native.Nat.{ℕ, _≤_}
 use native.Mathlib.Omega.{arith}
 use lib.Bits.{bitAnd, bitOr}
 use lib.Dec.{eqb, leb, ltb, leb→le}
@@ -18,7 +18,7 @@ use Rattle.binary32.specs.Sent.{stepFloat, wholeFloat}
 use Rattle.modbus.specs.Checksum.{framed}
 use Rattle.modbus.specs.Frame.{stationOf, functionOf, forUs, toUs, checked, judged}
 use Rattle.modbus.specs.Reply.{silent, answer, valueReply, writeReply, exceptionCode, exceptionReply}
-use Rattle.modbus.proofs.Replies.{length-framed}
+use Rattle.modbus.proofs.Replies.{length-framed, value-fits, write-fits, exception-fits}
 use Rattle.modbus.specs.declared.frame.Frame.{Frame}
 use Rattle.modbus.specs.declared.frame.Frame.the-variants.{Write, Read, Act}
 use Rattle.state.specs.Reading.{badReading, taken}
@@ -66,6 +66,16 @@ refused-unchanged d (reading elec temp integrity) h = go (badReading elec temp i
     go false k = absurd (k refl)
 refused-unchanged d (frame bytes room) h = obeyed-unchanged d (d .setup .figures .system .sz) (asked (d .setup) bytes room) h
 refused-unchanged d report h = refl
+
+-- ---- the length replied is within the lent buffer
+
+pub reply-fits : (d : Device) (s : List ℕ) (room : ℕ) → length (reply d s room) ≤ room
+reply-fits d s room = go (answerTo d s room)
+  where
+    go : (a : Answer) → length (replyWith s room a) ≤ room
+    go (Value x) = value-fits s room x
+    go Done = write-fits s room
+    go (Refused n) = exception-fits s room n
 
 -- ---- silence: 12 and 13, and every broadcast, leave all bytes of the buffer
 

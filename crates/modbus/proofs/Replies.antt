@@ -5,12 +5,16 @@ use mathlib.Core.Bool.{Bool, true, false, cond, _||_, true≢false}
 use mathlib.Core.List.{List, [], _∷_, _++_}
 use Prim.Native.Nat.{ℕ, _+_, _/_, _%_, _≤_}
 use borrow.Author.Tests.{ltb-false}
-use lib.Dec.{eqb, ltb}
-use lib.ListN.{length, take, drop, length-append}
+use native.Mathlib.Omega.{arith}
+use lib.Bits.{bitOr}
+use lib.Dec.{eqb, ltb, lit≤}
+use lib.Ieee.{Float}
+use lib.ListN.{length, take, drop, length-append, length-take}
 use lib.Seq.{take-at, drop-append-add, drop-drop}
 use Rattle.modbus.specs.Checksum.{checksumOf, framed}
-use Rattle.modbus.specs.Frame.{stationOf}
-use Rattle.modbus.specs.Reply.{silent, answer, Replied}
+use Rattle.binary32.specs.Wire.{wireBytes, sent}
+use Rattle.modbus.specs.Frame.{stationOf, functionOf}
+use Rattle.modbus.specs.Reply.{silent, answer, valueReply, writeReply, exceptionCode, exceptionReply, Replied}
 
 -- ---- what a test of silence tells
 
@@ -55,3 +59,34 @@ module _ (s b l : List ℕ) where
   pub unreplied : silent s (length b) ≡ true → Replied (answer s (length b) l) b b 0
   unfolding answer
   unreplied h = subst (λ (t : Bool). Replied (cond t [] (framed l)) b b 0) (sym h) (record { count = refl; buffer = refl })
+
+-- ---- a reply fits the buffer: it has at most 9 bytes, and there is none with less room
+
+module _ (s : List ℕ) (room : ℕ) where
+  answer-fits : (l : List ℕ) → length l ≤ 7 → length (answer s room l) ≤ room
+  unfolding answer
+  answer-fits l h = by (silent s room) refl
+    where
+      by : (t : Bool) → silent s room ≡ t → length (cond t [] (framed l)) ≤ room
+      by true e = omega arith
+      by false e = omega (arith, length-framed l, enough s room e)
+
+  pub value-fits : (x : Float) → length (valueReply s room x) ≤ room
+  unfolding wireBytes
+  value-fits x = answer-fits (stationOf s ∷ 3 ∷ 4 ∷ sent x) (lit≤ tt)
+
+  pub write-fits : length (writeReply s room) ≤ room
+  unfolding writeReply
+  write-fits = by (eqb (length s) 13)
+    where
+      by : (t : Bool) → length (cond t (answer s room (take 6 s)) []) ≤ room
+      by true = answer-fits (take 6 s) (omega (arith, length-take 6 s))
+      by false = omega arith
+
+  pub exception-fits : (number : ℕ) → length (exceptionReply s room number) ≤ room
+  unfolding exceptionReply
+  exception-fits number = by (eqb (exceptionCode number (functionOf s)) 0)
+    where
+      by : (t : Bool) → length (cond t [] (answer s room (stationOf s ∷ bitOr (functionOf s) 128 ∷ exceptionCode number (functionOf s) ∷ []))) ≤ room
+      by true = omega arith
+      by false = answer-fits _ (lit≤ tt)
