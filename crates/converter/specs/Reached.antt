@@ -8,6 +8,7 @@ use lib.ListN.{length}
 use Rattle.modbus.specs.Reply.{Replied}
 use Rattle.converter.specs.Making.{made}
 use Rattle.state.specs.Register.{numberOf}
+use Rattle.state.specs.declared.State.{State}
 use Rattle.state.specs.declared.registers.Answer.{Answer}
 use Rattle.converter.specs.Call.{Call, reading, frame, step, run, number, replyWith, reply}
 use Rattle.converter.specs.declared.bus.Answered.{Answered}
@@ -21,6 +22,13 @@ pub record Reached (d : Device) : Type 0 where
   pub accepted : made sheet station .number ≡ 0
   pub calls : List Call
   pub is : d ≡ run (made sheet station .device) calls
+
+-- the state and the SZ of such a device
+pub record Kept (s : State) (sz : ℤ) : Type 0 where
+  pub device : Device
+  pub reached : Reached device
+  pub state-is : device .state ≡ s
+  pub sz-is : device .setup .figures .system .sz ≡ sz
 
 -- a making: an accepted one gives a device
 pub record Making (sheet : List ℕ) (station : ℕ) (r : Outcome) : Type 0 where

@@ -71,8 +71,6 @@ use Rattle.state.proofs.state_after.Met as turn-thm
 use Rattle.converter.specs.Reached.{Reached, Answering, Serving}
 use Rattle.converter.specs.declared.Device.{Device}
 use Rattle.converter.specs.declared.bus.Answered.{Answered}
-use Rattle.converter.proofs.Sound.{state-within}
-use Rattle.converter.proofs.Reached.{reached-sound}
 use Rattle.converter.proofs.Entries.{serves}
 use Rattle.converter.proofs.Device as D
 use Rattle.converter.proofs.Device.Laws as D′
@@ -201,7 +199,7 @@ module _ {M : Type 1} (𝓤 : URA M) (H : Heap 𝓤) (A : Atoms 𝓤) (W : Given
     answer-asks : IsDevice h → ent 𝓤 (⋆ 𝓤 H A (((‵ (flft κ₁ q₁) ⊛ ‵ ftrue) ⊛ (‵ (flft κ₂ q₂) ⊛ ‵ ftrue)) ∷ Frame ∷ Reply ∷ [])) (Answer 𝓤 H A at-mem run .pre to-answer)
     answer-asks was =
         qed W (((‵ (flft κ₁ q₁) ⊛ ‵ ftrue) ⊛ (‵ (flft κ₂ q₂) ⊛ ‵ ftrue)) ∷ Frame ∷ Reply ∷ []) ∵ split ! $ split ! $ move ! (1 ∷ []) $ drop ! $ join ! $
-        says ! (state-within (reached-sound reached)) $ frame ! $ nothing ! $ move ! (2 ∷ 0 ∷ []) $ fjoin ! $ move ! (1 ∷ 0 ∷ []) $ fjoin ! $
+        says ! (record { device = h; reached = reached; state-is = refl; sz-is = refl }) $ frame ! $ nothing ! $ move ! (2 ∷ 0 ∷ []) $ fjoin ! $ move ! (1 ∷ 0 ∷ []) $ fjoin ! $
         owned ! R.the-row (Is R.the-row) (EL.makes R.the-type R′.the-plain 𝓤 H A) a (va ∷ []) a-is $ fjoin ! $ owned ! i64 (Is i64) (sint-makes 𝓤 H A W w64) sz _ (sz-is h was) $ fjoin ! $
         owned ! S.the-row (Is S.the-row) (LL.makes S.the-type S′.the-plain 𝓤 H A) (h .state) _ (state-is h was) $ fjoin ! $ done !
 

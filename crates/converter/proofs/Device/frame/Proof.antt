@@ -1,4 +1,5 @@
 -- `converter::Device::frame` meets its contract: what is asked is answered, replied and obeyed. Assumes nothing.
+use mathlib.Core.Path.{refl, sym}
 use denote.Ref.{now}
 use borrow.Author.Needs.{needs}
 use Rattle.state.proofs.Within.{kept}
@@ -14,8 +15,7 @@ asked-requires c κs = search needs
 answer-requires : tie.Need-answer-requires
 answer-requires c κs =
     let s = c .before .before .before .before .before .before .before .before in
-    let h = state-within (reached-sound (s .pre)) in
-    rw (kept (h .sz-in)) h
+    record { device = s .args .self; reached = s .pre; state-is = refl; sz-is = sym (kept (state-within (reached-sound (s .pre)) .sz-in)) }
 
 setup-after-requires : tie.Need-setup-after-requires
 setup-after-requires c κs = search needs
