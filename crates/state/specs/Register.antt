@@ -13,8 +13,8 @@ use Rattle.state.specs.declared.requests.Request.the-variants.{Refuse, S
 use Rattle.state.specs.declared.registers.Answer.{Answer}
 use Rattle.state.specs.declared.registers.Answer.the-variants.{Value, Done, Refused}
 
--- "STAT 6, SOUT 9 and SYS 10 (equal), TEMP 11, SRAW 12, CELL 13, .. CRAW 15, ELEC 16, .. PEAK 24, TROF 25": those of a reading
--- that count in steps
+-- "SOUT 9 and SYS 10 (equal), TEMP 11, SRAW 12, CELL 13, .. CRAW 15, ELEC 16, .. PEAK 24, TROF 25": those of a reading that
+-- count in steps. 9 and 10 are the last case, since a judged frame reads no register but listed ones.
 unfoldable pub stepsAt : Readings → ℕ → ℤ
 stepsAt r n =
     cond (eqb n 11) (r .temp)
@@ -34,8 +34,8 @@ readingFloat r n = cond (eqb n 6) (wholeFloat (r .values .stat)) (stepFloat (ste
 unfoldable pub readingAt : Readings → ℕ → Answer
 readingAt r n = cond (r .any) (Value (readingFloat r n)) (Refused 10)
 
--- A listed register. "FLAG and SZ read at all times"; SYSN is 11 "with none taken"; RST 100, SNAP 103 and peak reset 104:
--- "reading those three gives 0.0 at any time".
+-- A listed register. "FLAG and SZ read at all times"; SYSN is 11 "with none taken"; RST 100, SNAP 103 and peak reset 104, the
+-- listed ones from 100 on: "reading those three gives 0.0 at any time".
 unfoldable pub registerAt : State → ℤ → ℕ → Answer
 registerAt s sz n =
     cond (eqb n 14) (Value (wholeFloat (s .flag)))

@@ -93,7 +93,7 @@ stateBy s Rst = fresh
 stateBy s Snap = snapped s
 stateBy s PeakReset = peaksReset s
 
--- any other request leaves it as it is (`state-unchanged`, `proofs/Unchanged.antt`)
+-- can a request change the state? One that cannot leaves it as it is (`state-unchanged`, `proofs/Unchanged.antt`).
 unfoldable pub changesState : Request → Bool
 changesState (Refuse n) = false
 changesState (Show r) = false
