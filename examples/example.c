@@ -1,4 +1,5 @@
-/* Make a device of the default sheet, take a reading, and answer a read of SYS: what a board does all day. */
+/* Make a device of the default sheet, take readings, and answer frames: what a board does all day. In the last report
+ * the four values differ, so that a header with their order changed does not pass. */
 #include "converter.h"
 #include <stdio.h>
 
@@ -37,6 +38,12 @@ static void print_reply(const char *what, converter_answered answered, const uin
     printf("\n");
 }
 
+static void print_report(converter_reported reported)
+{
+    printf("report: %u, SYS %.1f PEAK %.1f TROF %.1f CELL %.1f\n", reported.number, reported.report.sys,
+           reported.report.peak, reported.report.trof, reported.report.cell);
+}
+
 int main(void)
 {
     static converter_device device;
@@ -46,9 +53,7 @@ int main(void)
 
     /* 100 % at 20 degrees. */
     printf("reading: %u\n", converter_reading(&device, 6553600, 1310720, 0));
-    converter_reported reported = converter_report(&device);
-    printf("report: %u, SYS %.1f PEAK %.1f TROF %.1f CELL %.1f\n", reported.number, reported.report.sys,
-           reported.report.peak, reported.report.trof, reported.report.cell);
+    print_report(converter_report(&device));
 
     /* Station 52, function 3, wire address 20 (SYS), quantity 2, checksum. */
     static const uint8_t read_sys[] = {0x34, 0x03, 0x00, 0x14, 0x00, 0x02, 0x81, 0xaa};
@@ -60,5 +65,12 @@ int main(void)
 
     /* A damaged frame is not answered. */
     print_reply("damaged", converter_frame(&device, read_sys, sizeof read_sys - 1, reply, sizeof reply), reply);
+
+    /* SZ 25, to all stations: obeyed and not answered. It counts from the next reading: 50 %, then 75 %. */
+    static const uint8_t write_sz[] = {0x00, 0x10, 0x00, 0x2c, 0x00, 0x02, 0x04, 0x00, 0x00, 0x41, 0xc8, 0xc4, 0xd8};
+    print_reply("broadcast SZ", converter_frame(&device, write_sz, sizeof write_sz, reply, sizeof reply), reply);
+    printf("reading: %u\n", converter_reading(&device, 3276800, 1310720, 0));
+    printf("reading: %u\n", converter_reading(&device, 4915200, 1310720, 0));
+    print_report(converter_report(&device));
     return 0;
 }
