@@ -24,7 +24,7 @@ pub record Reached (d : Device) : Type 0 where
   pub is : d ≡ run (made sheet station .device) calls
 
 -- the state and the SZ of such a device
-pub record Kept (s : State) (sz : ℤ) : Type 0 where
+pub record Parts (s : State) (sz : ℤ) : Type 0 where
   pub device : Device
   pub reached : Reached device
   pub state-is : device .state ≡ s

@@ -6,7 +6,7 @@ ghost use Rattle.modbus.specs.Reply.{Replied};
 ghost use Rattle.state.specs.Request.{requested};
 ghost use Rattle.state.specs.Register.{answered, numberOf};
 ghost use Rattle.converter.specs.Call.{replyWith};
-ghost use Rattle.converter.specs.Reached.{Kept, Answering};
+ghost use Rattle.converter.specs.Reached.{Parts, Answering};
 use state::Answer;
 use state::Request;
 use state::State;
@@ -48,7 +48,7 @@ fn reply_with(frame: &[u8], reply: &mut [u8], answer: Answer) -> usize
 
 // The request answered, and the reply written.
 pub fn answer(state: State, sz: i64, request: Request, frame: &[u8], reply: &mut [u8]) -> Answered
-    requires { ⌜ Kept state sz ⌝ }
+    requires { ⌜ Parts state sz ⌝ }
     ensures { λ r. ⌜ Answering (answered state sz request) (now (frame .entry)) (now (reply .entry)) (now (reply .exit)) r ⌝ }
 {
     let answer = state::answer_to(state, sz, request);

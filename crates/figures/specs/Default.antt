@@ -2,15 +2,11 @@
 -- filter 0 and 0" (01, "The calibration sheet").
 use mathlib.Core.List.{[], _∷_}
 use Prim.Native.Nat.{_*_}
-use lib.IntN.{ℤ, pos, negℤ}
+use lib.IntN.{pos, negℤ}
 use Rattle.figures.specs.Limits.{unit}
 use Rattle.figures.specs.declared.TemperaturePoint.{TemperaturePoint}
 use Rattle.figures.specs.declared.LinearityPoint.{LinearityPoint}
 use Rattle.figures.specs.declared.Calibration.{Calibration}
-
--- steps to a unit
-abbrev pub steps : ℤ
-steps = pos 65536
 
 abbrev pub noTemperature : TemperaturePoint
 noTemperature = record { ct = pos 0; cto = pos 0; ctg = pos 0 }

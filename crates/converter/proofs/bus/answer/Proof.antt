@@ -12,7 +12,7 @@ use Rattle.state.specs.declared.State.{State}
 use Rattle.state.specs.declared.registers.Answer.{Answer}
 use Rattle.state.proofs.Within.{kept}
 use Rattle.converter.specs.Call.{replyWith}
-use Rattle.converter.specs.Reached.{Kept, Answering}
+use Rattle.converter.specs.Reached.{Parts, Answering}
 use Rattle.converter.proofs.Sound.{state-within}
 use Rattle.converter.proofs.Reached.{reached-sound}
 use Rattle.converter.proofs.bus.answer.Statement.{statement}
@@ -21,7 +21,7 @@ use Rattle.converter.proofs.bus.answer.Tie as tie
 answers : {a b : Answer} (bytes before after : List ℕ) {n m : ℕ} → a ≡ b → Replied (replyWith bytes (length before) a) before after m → n ≡ numberOf a → Answering b bytes before after (record { number = n; length = m })
 answers bytes before after e h k = record { number-is = k ∙ ap numberOf e; replied = rw e at h }
 
-within : {s : State} {sz : ℤ} → Kept s sz → StateWithin s sz
+within : {s : State} {sz : ℤ} → Parts s sz → StateWithin s sz
 within h = rw (← h .state-is, ← h .sz-is) (state-within (reached-sound (h .reached)))
 
 answer-to-requires : tie.Need-answer-to-requires
