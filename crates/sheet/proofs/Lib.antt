@@ -4,7 +4,6 @@ pub mod Chain
 pub mod Numbers
 pub mod Whole
 pub mod Sections
-pub mod Pieces
 pub mod Rows
 pub mod AcceptableSections
 pub mod AcceptableTables

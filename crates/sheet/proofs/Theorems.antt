@@ -1,11 +1,10 @@
 -- What a laboratory and a plant may rely on, over all bytes and all figures. Assumes nothing.
 use mathlib.Core.Path.{_≡_, refl, sym, _∙_, ap}
-use mathlib.Core.List.{List, _++_}
+use mathlib.Core.List.{List}
 use mathlib.Core.Logic.{_↔_}
-use Prim.Native.Nat.{ℕ, _+_, _≤_, min}
-use lib.ListN.{length, take, drop}
-use lib.Seq.{take-at}
-use borrow.Author.Tests.{ne-eqb, le-ltb}
+use Prim.Native.Nat.{ℕ, _+_, min}
+use lib.ListN.{length}
+use borrow.Author.Tests.{ne-eqb}
 use Rattle.figures.specs.Acceptable.{Acceptable}
 use Rattle.figures.specs.Default.{noTemperature, noLinearity}
 use Rattle.figures.specs.Representable.{Representable, Fitting}
@@ -15,7 +14,7 @@ use Rattle.sheet.specs.declared.Sheet.{Sheet}
 use Rattle.sheet.specs.Bytes.{countAt, Bytes}
 use Rattle.sheet.specs.Judge.{figuresNumber, sheetLength}
 use Rattle.sheet.specs.Read.{figuresOf, temperaturePointAt, linearityPointAt, temperatureAt, linearityAt, sheetNumber, noFigures, readSheet, linearityPlace}
-use Rattle.sheet.specs.Write.{sheetBytes, writeNumber, outAfter}
+use Rattle.sheet.specs.Write.{sheetBytes}
 use Rattle.sheet.proofs.Sections.{counts-in}
 use Rattle.sheet.proofs.Accepted.{figures-acceptable, acceptable-figures, acceptable-fits}
 use Rattle.sheet.proofs.Points.{points-length, points-used}
@@ -41,14 +40,6 @@ written-read c r h =
     let k = sheet-cut (sheetBytes c) c r (acceptable-fits c r h) refl in
     let e = bytes-judged (sheetBytes c) c k ∙ acceptable-figures c r h in
     simp (e, k .says)
-
--- by way of a lent buffer
-pub buffer-read : (c : Calibration) (out : List ℕ) → Representable c → Acceptable c → sheetLength c ≤ length out → readSheet (take (sheetLength c) (outAfter c out)) ≡ record { number = 0; figures = unusedZero c }
-unfolding outAfter writeNumber
-buffer-read c out r h l =
-    let k = sheet-cut (sheetBytes c) c r (acceptable-fits c r h) refl in
-    let b : outAfter c out ≡ sheetBytes c ++ drop (sheetLength c) out = simp (acceptable-figures c r h, le-ltb _ _ l) in
-    ap (λ (x : List ℕ). readSheet (take (sheetLength c) x)) b ∙ ap readSheet (take-at (sheetBytes c) (drop (sheetLength c) out) (sheetLength c) (k .long)) ∙ written-read c r h
 
 -- 93 + 24·CTN + 16·CLN bytes
 pub written-length : (c : Calibration) → Representable c → Fitting c → length (sheetBytes c) ≡ sheetLength c

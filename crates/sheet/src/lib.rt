@@ -1,32 +1,25 @@
-// The calibration sheet (01, "The calibration sheet"): bytes to figures and back.
+// The calibration sheet (01, "The calibration sheet"): bytes to figures, and the judgement of figures. `sheet_writer` writes one.
 ghost use mathlib.Core.Path.{_≡_};
 ghost use Rattle.sheet.specs.Step.{countStep, figureStep};
 
 mod bytes;
 mod judgement;
 mod reading;
-mod writing;
 
 use bytes::next_count;
 use bytes::next_figure;
+pub use bytes::unsigned;
 use figures::Calibration;
 pub use judgement::judge;
+pub use judgement::sheet_length;
 pub use reading::no_figures;
 pub use reading::read;
-pub use writing::write;
 
 // What a sheet says, and 0; or the number of its first fault, and zeros.
 #[repr(C)]
 pub struct Sheet {
     pub number: u8,
     pub figures: Calibration,
-}
-
-// 0 and the bytes written; or the number of the refusal, and 0.
-#[repr(C)]
-pub struct Written {
-    pub number: u8,
-    pub length: usize,
 }
 
 // A count read and the place after it, and 0; or 1, where the sheet ends before, and the place kept.

@@ -29,9 +29,9 @@ fn make_device() -> Outcome
     ensures { λ r. ⌜ Making (sheetBytes defaultSheet) 52 r ⌝ }
 {
     let mut buffer = [0u8; 325];
-    let written = sheet::write(Calibration::new(), &mut buffer);
+    let written = sheet_writer::write(Calibration::new(), &mut buffer);
     let length = written.length;
-    lines::print_call(b"sheet::write", b"default figures", written.number);
+    lines::print_call(b"sheet_writer::write", b"default figures", written.number);
     lines::print_length(length);
     lines::end_line();
     let made = Device::make(&buffer[..length], 52);

@@ -9,10 +9,11 @@ use Rattle.figures.specs.Default.{defaultSheet}
 use Rattle.figures.specs.declared.Calibration.{Calibration}
 use Rattle.figures.proofs.Default.{default-representable, default-acceptable}
 use Rattle.sheet.specs.Judge.{sheetLength}
-use Rattle.sheet.specs.Write.{sheetBytes, writeNumber, writtenOf, outAfter}
-use Rattle.sheet.specs.declared.Written.{Written}
+use Rattle.sheet.specs.Write.{sheetBytes}
 use Rattle.sheet.proofs.Accepted.{acceptable-figures, acceptable-fits}
 use Rattle.sheet.proofs.Theorems.{written-length}
+use Rattle.sheet_writer.specs.Write.{writeNumber, writtenOf, outAfter}
+use Rattle.sheet_writer.specs.declared.Written.{Written}
 use borrow.Author.Needs.{needs}
 use Rattle.converter.specs.Reached.{Making}
 use Rattle.tour.proofs.make_device.Statement.{statement}

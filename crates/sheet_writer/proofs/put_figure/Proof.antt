@@ -1,0 +1,80 @@
+-- Invariant: what is written and what is left of the word make up the eight bytes. Assumes nothing.
+use Prim.Native.Nat.{_+_, _-_, _≤_, suc, ℕ}
+use Rattle.integers.proofs.Machine.{fits}
+use Rattle.sheet_writer.proofs.Pieces.{byte-more, later}
+use Rattle.sheet.specs.Bytes.{figureBytes, wordBytes}
+use lib.ListN.{drop, length, take}
+use mathlib.Core.List.{_++_, append-nil}
+use mathlib.Core.Path.{_∙_, _≡_, ap, refl, sym}
+use mir.Facts.{toZ-ofZ}
+use native.Mathlib.Omega.{arith}
+use borrow.Author.Needs.{needs}
+use Rattle.sheet_writer.proofs.put_figure.Statement.{statement}
+use Rattle.sheet_writer.proofs.put_figure.Tie as tie
+
+abbrev Inv-loop : tie.InvT-loop
+Inv-loop out₀ at v word₀ i₀ out word i = (take (at + i) out ++ wordBytes (8 - i) word ≡ take at out₀ ++ wordBytes 8 word₀) × (length out ≡ length out₀) × (drop (at + 8) out ≡ drop (at + 8) out₀) × (i ≤ 8)
+
+abbrev μ-loop : tie.MeasureT-loop
+μ-loop out₀ at v word₀ i₀ out word i = 8 - i
+
+unsigned-requires : tie.Need-unsigned-requires Inv-loop μ-loop
+unsigned-requires c κs = tt
+
+loop-holds : tie.Need-loop-holds Inv-loop μ-loop
+loop-holds c =
+    let e : c .before .before .args .at + 0 ≡ c .before .before .args .at = omega arith in
+    (rw e, refl, refl, omega arith)
+
+add-put-count : tie.Need-add-put-count Inv-loop μ-loop
+add-put-count c = omega arith
+
+cast-put-count : tie.Need-cast-put-count Inv-loop μ-loop
+cast-put-count c = omega arith
+
+put-count-requires : tie.Need-put-count-requires Inv-loop μ-loop
+put-count-requires c κs = omega arith
+
+add-i : tie.Need-add-i Inv-loop μ-loop
+add-i c = omega arith
+
+loop-less : tie.Need-loop-less Inv-loop μ-loop
+loop-less c = omega arith
+
+loop-again : tie.Need-loop-again Inv-loop μ-loop
+loop-again c =
+    let l = c .before .before .before .before .before .loop in
+    let at = c .before .before .before .before .before .before .before .before .args .at in
+    let e : at + (l .i + 1) ≡ at + l .i + 1 = omega arith in
+    let d : 8 - l .i ≡ suc (8 - (l .i + 1)) = omega arith in
+    let w = c .before .before .put-count .ensures in
+    (byte-more (take (at + l .i) (l .out)) _ _ _ (l .word) d (l .inv .0) (rw (← e) at (w .front)), omega (arith, w .same), later _ _ {q = at + l .i + 1} {r = at + 8} (omega arith) (w .rest) ∙ l .inv .2, omega arith)
+
+same-length : tie.Need-same-length Inv-loop μ-loop
+same-length c = search needs
+
+returns : tie.Need-returns Inv-loop μ-loop
+unfolding figureBytes
+returns c =
+    let e : c .before .loop .i ≡ 8 = omega arith in
+    let s = c .before .before .before .before in
+    let h = rw e at (c .before .loop .inv .0) in
+    let v = simp (toZ-ofZ, s .fits .v) at (c .before .before .unsigned .ensures) in
+    record { same = c .before .loop .inv .1; front = sym (append-nil _) ∙ h ∙ ap (λ (x : ℕ). take (s .args .at) (s .args .out .now) ++ wordBytes 8 x) v; rest = c .before .loop .inv .2 }
+
+pub put-figure-spec : {M : Type 1} → statement M
+put-figure-spec =
+    tie.close
+    (tie.spec
+    Inv-loop
+    μ-loop
+    unsigned-requires
+    loop-holds
+    add-put-count
+    cast-put-count
+    put-count-requires
+    add-i
+    loop-less
+    loop-again
+    same-length
+    returns)

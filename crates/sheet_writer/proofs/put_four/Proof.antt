@@ -1,0 +1,53 @@
+-- One piece behind the other. Assumes nothing.
+use Rattle.integers.proofs.Machine.{fits}
+use Rattle.sheet_writer.proofs.Pieces.{wrote-as, wrote-more}
+use Rattle.sheet.specs.Bytes.{figureBytes}
+use mathlib.Core.Path.{ap, refl}
+use mir.Facts.{toZ-ofZ}
+use native.Mathlib.Omega.{arith}
+use borrow.Author.Needs.{needs}
+use Rattle.sheet_writer.proofs.put_four.Statement.{statement}
+use Rattle.sheet_writer.proofs.put_four.Tie as tie
+
+put-figure-requires : tie.Need-put-figure-requires
+put-figure-requires c κs = search needs
+
+add-put-figure : tie.Need-add-put-figure
+add-put-figure c = search needs
+
+put-figure-requires-2 : tie.Need-put-figure-requires-2
+put-figure-requires-2 c κs = search needs
+
+add-put-figure-2 : tie.Need-add-put-figure-2
+add-put-figure-2 c = search needs
+
+put-figure-requires-3 : tie.Need-put-figure-requires-3
+put-figure-requires-3 c κs = search needs
+
+add-put-figure-3 : tie.Need-add-put-figure-3
+add-put-figure-3 c = search needs
+
+put-figure-requires-4 : tie.Need-put-figure-requires-4
+put-figure-requires-4 c κs = search needs
+
+same-length : tie.Need-same-length
+same-length c = search needs
+
+returns : tie.Need-returns
+returns c =
+    let s = c .before .before .before .before .before .before .before .before .before .before .before .before .before .before .before .before .before in
+    wrote-as (wrote-more (wrote-more (wrote-more (wrote-as (c .before .before .before .before .before .before .before .before .before .before .before .before .before .before .put-figure .ensures) refl (ap figureBytes (toZ-ofZ (s .fits .a)))) (omega arith) (omega arith) (wrote-as (c .before .before .before .before .before .before .before .before .before .before .put-figure2 .ensures) refl (ap figureBytes (toZ-ofZ (s .fits .b))))) (omega arith) (omega arith) (wrote-as (c .before .before .before .before .before .before .put-figure3 .ensures) refl (ap figureBytes (toZ-ofZ (s .fits .c))))) (omega arith) (omega arith) (wrote-as (c .before .before .put-figure4 .ensures) refl (ap figureBytes (toZ-ofZ (s .fits .d))))) (omega arith) (refl)
+
+pub put-four-spec : {M : Type 1} → statement M
+put-four-spec =
+    tie.close
+    (tie.spec
+    put-figure-requires
+    add-put-figure
+    put-figure-requires-2
+    add-put-figure-2
+    put-figure-requires-3
+    add-put-figure-3
+    put-figure-requires-4
+    same-length
+    returns)

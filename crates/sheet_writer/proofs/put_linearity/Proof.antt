@@ -1,0 +1,41 @@
+-- One piece behind the other. Assumes nothing.
+use Rattle.sheet_writer.proofs.Pieces.{wrote-as, wrote-more}
+use Rattle.sheet.specs.Write.{linearityBytes}
+use mathlib.Core.List.{[], _∷_}
+use mathlib.Core.Path.{refl}
+use native.Mathlib.Omega.{arith}
+use borrow.Author.Needs.{needs}
+use Rattle.sheet_writer.proofs.put_linearity.Statement.{statement}
+use Rattle.sheet_writer.proofs.put_linearity.Tie as tie
+
+put-count-requires : tie.Need-put-count-requires
+put-count-requires c κs = search needs
+
+add-put-linearity-points : tie.Need-add-put-linearity-points
+add-put-linearity-points c = search needs
+
+cast-put-linearity-points : tie.Need-cast-put-linearity-points
+cast-put-linearity-points c = search needs
+
+put-linearity-points-requires : tie.Need-put-linearity-points-requires
+put-linearity-points-requires c κs = search needs
+
+same-length : tie.Need-same-length
+same-length c = search needs
+
+returns : tie.Need-returns
+unfolding linearityBytes
+returns c =
+    let s = c .before .before .before .before .before .before .before .before .before .before in
+    wrote-more (wrote-as {ys = s .args .linearity .cln ∷ []} (c .before .before .before .before .before .before .put-count .ensures) refl refl) refl (omega arith) (c .before .before .put-linearity-points .ensures)
+
+pub put-linearity-spec : {M : Type 1} → statement M
+put-linearity-spec =
+    tie.close
+    (tie.spec
+    put-count-requires
+    add-put-linearity-points
+    cast-put-linearity-points
+    put-linearity-points-requires
+    same-length
+    returns)

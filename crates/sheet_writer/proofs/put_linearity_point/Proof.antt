@@ -1,0 +1,36 @@
+-- One piece behind the other. Assumes nothing.
+use Rattle.sheet_writer.proofs.Pieces.{wrote-as, wrote-more}
+use Rattle.sheet.specs.Bytes.{figureBytes}
+use Rattle.sheet.specs.Write.{linearityPointBytes}
+use mathlib.Core.Path.{_≡_, ap, refl}
+use mir.Syntax.{w64}
+use mir.Val.{ofZ, toZ}
+use native.Mathlib.Omega.{arith}
+use borrow.Author.Needs.{needs}
+use Rattle.sheet_writer.proofs.put_linearity_point.Statement.{statement}
+use Rattle.sheet_writer.proofs.put_linearity_point.Tie as tie
+
+put-figure-requires : tie.Need-put-figure-requires
+put-figure-requires c κs = search needs
+
+add-put-figure : tie.Need-add-put-figure
+add-put-figure c = search needs
+
+put-figure-requires-2 : tie.Need-put-figure-requires-2
+put-figure-requires-2 c κs = search needs
+
+same-length : tie.Need-same-length
+same-length c = search needs
+
+returns : tie.Need-returns
+unfolding linearityPointBytes
+returns c =
+    let s = c .before .before .before .before .before .before .before .before .before .before .before in
+    let b1 : toZ w64 (ofZ w64 (s .args .point .clx)) ≡ s .args .point .clx = search needs in
+    let b2 : toZ w64 (ofZ w64 (s .args .point .clk)) ≡ s .args .point .clk = search needs in
+    wrote-as (wrote-more (wrote-as (c .before .before .before .before .before .before .before .put-figure .ensures) refl (ap figureBytes b1)) (omega arith) (omega arith) (wrote-as (c .before .before .put-figure2 .ensures) refl (ap figureBytes b2))) (omega arith) (refl)
+
+pub put-linearity-point-spec : {M : Type 1} → statement M
+put-linearity-point-spec =
+    tie.close
+    (tie.spec put-figure-requires add-put-figure put-figure-requires-2 same-length returns)

@@ -1,0 +1,41 @@
+-- One piece behind the other. Assumes nothing.
+use Rattle.sheet_writer.proofs.Pieces.{wrote-as, wrote-more}
+use Rattle.sheet.specs.Write.{temperatureBytes}
+use mathlib.Core.List.{[], _∷_}
+use mathlib.Core.Path.{refl}
+use native.Mathlib.Omega.{arith}
+use borrow.Author.Needs.{needs}
+use Rattle.sheet_writer.proofs.put_temperature.Statement.{statement}
+use Rattle.sheet_writer.proofs.put_temperature.Tie as tie
+
+put-count-requires : tie.Need-put-count-requires
+put-count-requires c κs = search needs
+
+add-put-temperature-points : tie.Need-add-put-temperature-points
+add-put-temperature-points c = search needs
+
+cast-put-temperature-points : tie.Need-cast-put-temperature-points
+cast-put-temperature-points c = search needs
+
+put-temperature-points-requires : tie.Need-put-temperature-points-requires
+put-temperature-points-requires c κs = search needs
+
+same-length : tie.Need-same-length
+same-length c = search needs
+
+returns : tie.Need-returns
+unfolding temperatureBytes
+returns c =
+    let s = c .before .before .before .before .before .before .before .before .before .before in
+    wrote-more (wrote-as {ys = s .args .temperature .ctn ∷ []} (c .before .before .before .before .before .before .put-count .ensures) refl refl) refl (omega arith) (c .before .before .put-temperature-points .ensures)
+
+pub put-temperature-spec : {M : Type 1} → statement M
+put-temperature-spec =
+    tie.close
+    (tie.spec
+    put-count-requires
+    add-put-temperature-points
+    cast-put-temperature-points
+    put-temperature-points-requires
+    same-length
+    returns)

@@ -1,0 +1,192 @@
+// Writing a calibration sheet (01, "The calibration sheet") straight into a lent buffer.
+ghost use mathlib.Core.Path.{_≡_};
+ghost use mathlib.Core.List.{_++_, _∷_, []};
+ghost use Prim.Native.Nat.{_+_, _*_, _≤_, _<_};
+ghost use lib.ListN.{length};
+ghost use Rattle.figures.specs.Default.{noTemperature, noLinearity};
+ghost use Rattle.sheet.specs.Bytes.{figureBytes};
+ghost use Rattle.sheet.specs.Judge.{sheetLength};
+ghost use Rattle.sheet.specs.Write.{cellBytes, temperaturePointBytes, linearityPointBytes, pointsBytes, temperatureBytes, linearityBytes, systemBytes, filterBytes, sheetBytes};
+ghost use Rattle.sheet_writer.specs.Write.{writtenOf, outAfter, Wrote};
+use figures::Calibration;
+use figures::Cell;
+use figures::Filter;
+use figures::Linearity;
+use figures::LinearityPoint;
+use figures::System;
+use figures::Temperature;
+use figures::TemperaturePoint;
+use sheet::judge;
+use sheet::sheet_length;
+use sheet::unsigned;
+
+// 0 and the bytes written; or the number of the refusal, and 0.
+#[repr(C)]
+pub struct Written {
+    pub number: u8,
+    pub length: usize,
+}
+
+fn put_count(out: &mut [u8], at: usize, count: u8)
+    requires { ⌜ at < length (now out) ⌝ }
+    ensures { λ _. ⌜ Wrote (now (out .entry)) (now (out .exit)) at (at + 1) (count ∷ []) ⌝ }
+{
+    out[at] = count;
+}
+
+fn put_figure(out: &mut [u8], at: usize, v: i64)
+    requires { ⌜ at + 8 ≤ length (now out) ⌝ }
+    ensures { λ _. ⌜ Wrote (now (out .entry)) (now (out .exit)) at (at + 8) (figureBytes v) ⌝ }
+{
+    let mut word = unsigned(v);
+    let mut i: usize = 0;
+    while i < 8 {
+        put_count(out, at + i, (word % 256) as u8);
+        word = word / 256;
+        i += 1;
+    }
+}
+
+fn put_four(out: &mut [u8], at: usize, a: i64, b: i64, c: i64, d: i64)
+    requires { ⌜ at + 32 ≤ length (now out) ⌝ }
+    ensures { λ _. ⌜ Wrote (now (out .entry)) (now (out .exit)) at (at + 32) (figureBytes a ++ figureBytes b ++ figureBytes c ++ figureBytes d) ⌝ }
+{
+    put_figure(out, at, a);
+    put_figure(out, at + 8, b);
+    put_figure(out, at + 16, c);
+    put_figure(out, at + 24, d);
+}
+
+fn put_cell(out: &mut [u8], at: usize, cell: Cell)
+    requires { ⌜ at + 33 ≤ length (now out) ⌝ }
+    ensures { λ _. ⌜ Wrote (now (out .entry)) (now (out .exit)) at (at + 33) (cellBytes cell) ⌝ }
+{
+    put_count(out, at, 4);
+    put_four(out, at + 1, cell.cofs, cell.cgai, cell.cmin, cell.cmax);
+}
+
+fn put_temperature_point(out: &mut [u8], at: usize, point: TemperaturePoint)
+    requires { ⌜ at + 24 ≤ length (now out) ⌝ }
+    ensures { λ _. ⌜ Wrote (now (out .entry)) (now (out .exit)) at (at + 24) (temperaturePointBytes point) ⌝ }
+{
+    put_figure(out, at, point.ct);
+    put_figure(out, at + 8, point.cto);
+    put_figure(out, at + 16, point.ctg);
+}
+
+// The first `n` points.
+fn put_temperature_points(out: &mut [u8], at: usize, points: [TemperaturePoint; 5], n: usize)
+    requires { ⌜ (n ≤ 5) × (at + 24 * n ≤ length (now out)) ⌝ }
+    ensures { λ _. ⌜ Wrote (now (out .entry)) (now (out .exit)) at (at + 24 * n) (pointsBytes noTemperature temperaturePointBytes points n) ⌝ }
+{
+    let mut i: usize = 0;
+    while i < n {
+        let point = points[i];
+        put_temperature_point(out, at + 24 * i, point);
+        i += 1;
+    }
+}
+
+fn put_temperature(out: &mut [u8], at: usize, temperature: Temperature)
+    requires { ⌜ (temperature .ctn ≤ 5) × (at + 1 + 24 * temperature .ctn ≤ length (now out)) ⌝ }
+    ensures { λ _. ⌜ Wrote (now (out .entry)) (now (out .exit)) at (at + 1 + 24 * temperature .ctn) (temperatureBytes temperature) ⌝ }
+{
+    let ctn = temperature.ctn;
+    let points = temperature.points;
+    put_count(out, at, ctn);
+    put_temperature_points(out, at + 1, points, ctn as usize);
+}
+
+fn put_linearity_point(out: &mut [u8], at: usize, point: LinearityPoint)
+    requires { ⌜ at + 16 ≤ length (now out) ⌝ }
+    ensures { λ _. ⌜ Wrote (now (out .entry)) (now (out .exit)) at (at + 16) (linearityPointBytes point) ⌝ }
+{
+    put_figure(out, at, point.clx);
+    put_figure(out, at + 8, point.clk);
+}
+
+// The first `n` points.
+fn put_linearity_points(out: &mut [u8], at: usize, points: [LinearityPoint; 7], n: usize)
+    requires { ⌜ (n ≤ 7) × (at + 16 * n ≤ length (now out)) ⌝ }
+    ensures { λ _. ⌜ Wrote (now (out .entry)) (now (out .exit)) at (at + 16 * n) (pointsBytes noLinearity linearityPointBytes points n) ⌝ }
+{
+    let mut i: usize = 0;
+    while i < n {
+        let point = points[i];
+        put_linearity_point(out, at + 16 * i, point);
+        i += 1;
+    }
+}
+
+fn put_linearity(out: &mut [u8], at: usize, linearity: Linearity)
+    requires { ⌜ (linearity .cln ≤ 7) × (at + 1 + 16 * linearity .cln ≤ length (now out)) ⌝ }
+    ensures { λ _. ⌜ Wrote (now (out .entry)) (now (out .exit)) at (at + 1 + 16 * linearity .cln) (linearityBytes linearity) ⌝ }
+{
+    let cln = linearity.cln;
+    let points = linearity.points;
+    put_count(out, at, cln);
+    put_linearity_points(out, at + 1, points, cln as usize);
+}
+
+fn put_system(out: &mut [u8], at: usize, system: System)
+    requires { ⌜ at + 41 ≤ length (now out) ⌝ }
+    ensures { λ _. ⌜ Wrote (now (out .entry)) (now (out .exit)) at (at + 41) (systemBytes system) ⌝ }
+{
+    put_count(out, at, 5);
+    put_four(
+        out,
+        at + 1,
+        system.sofs,
+        system.sgai,
+        system.smin,
+        system.smax,
+    );
+    put_figure(out, at + 33, system.sz);
+}
+
+fn put_filter(out: &mut [u8], at: usize, filter: Filter)
+    requires { ⌜ at + 17 ≤ length (now out) ⌝ }
+    ensures { λ _. ⌜ Wrote (now (out .entry)) (now (out .exit)) at (at + 17) (filterBytes filter) ⌝ }
+{
+    put_count(out, at, 2);
+    put_figure(out, at + 1, filter.fflv);
+    put_figure(out, at + 9, filter.ffst);
+}
+
+// The whole sheet at the front of the buffer.
+fn put_sheet(out: &mut [u8], figures: Calibration)
+    requires { ⌜ (figures .temperature .ctn ≤ 5) × (figures .linearity .cln ≤ 7) × (sheetLength figures ≤ length (now out)) ⌝ }
+    ensures { λ _. ⌜ Wrote (now (out .entry)) (now (out .exit)) 0 (sheetLength figures) (sheetBytes figures) ⌝ }
+{
+    let cell = figures.cell;
+    let temperature = figures.temperature;
+    let linearity = figures.linearity;
+    let system = figures.system;
+    let filter = figures.filter;
+    let linearity_at = 34 + 24 * (temperature.ctn as usize);
+    let system_at = linearity_at + 1 + 16 * (linearity.cln as usize);
+    put_cell(out, 0, cell);
+    put_temperature(out, 33, temperature);
+    put_linearity(out, linearity_at, linearity);
+    put_system(out, system_at, system);
+    put_filter(out, system_at + 41, filter);
+}
+
+// Writes a sheet at the front of `out`, or refuses and leaves `out` as it was.
+pub fn write(figures: Calibration, out: &mut [u8]) -> Written
+    ensures { λ r. ⌜ (r ≡ writtenOf figures (now (out .entry))) × (now (out .exit) ≡ outAfter figures (now (out .entry))) ⌝ }
+{
+    let number = judge(figures);
+    if number != 0 {
+        return Written { number, length: 0 };
+    }
+    let length = sheet_length(figures);
+    if out.len() < length {
+        return Written {
+            number: 12,
+            length: 0,
+        };
+    }
+    put_sheet(out, figures);
+    Written { number: 0, length }
+}
