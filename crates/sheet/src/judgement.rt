@@ -265,18 +265,13 @@ fn filter_number(room: usize, at: usize, count: u8, filter: Filter) -> u8
 pub fn sections_number(room: usize, cell: u8, system: u8, filter: u8, figures: Calibration) -> u8
     ensures { λ r. ⌜ r ≡ sectionsNumber (shortOf room) cell system filter figures ⌝ }
 {
-    let c = figures.cell;
-    let t = figures.temperature;
-    let l = figures.linearity;
-    let s = figures.system;
-    let f = figures.filter;
-    let linearity_at = 34 + 24 * (t.ctn as usize);
-    let system_at = linearity_at + 1 + 16 * (l.cln as usize);
-    let in_cell = cell_number(room, 0, cell, c);
-    let in_temperature = temperature_number(room, 33, t);
-    let in_linearity = linearity_number(room, linearity_at, l);
-    let in_system = system_number(room, system_at, system, s);
-    let in_filter = filter_number(room, system_at + 41, filter, f);
+    let linearity_at = 34 + 24 * (figures.temperature.ctn as usize);
+    let system_at = linearity_at + 1 + 16 * (figures.linearity.cln as usize);
+    let in_cell = cell_number(room, 0, cell, figures.cell);
+    let in_temperature = temperature_number(room, 33, figures.temperature);
+    let in_linearity = linearity_number(room, linearity_at, figures.linearity);
+    let in_system = system_number(room, system_at, system, figures.system);
+    let in_filter = filter_number(room, system_at + 41, filter, figures.filter);
     first(
         in_cell,
         first(
@@ -286,13 +281,11 @@ pub fn sections_number(room: usize, cell: u8, system: u8, filter: u8, figures: C
     )
 }
 
-// How many bytes these figures take: 93 + 24·CTN + 16·CLN.
+// How many bytes these figures take.
 pub fn sheet_length(figures: Calibration) -> usize
     ensures { λ r. ⌜ (r ≡ sheetLength figures) × (r < 2 ^ 14) ⌝ }
 {
-    let temperature = figures.temperature;
-    let linearity = figures.linearity;
-    34 + 24 * (temperature.ctn as usize) + 1 + 16 * (linearity.cln as usize) + 41 + 17
+    93 + 24 * (figures.temperature.ctn as usize) + 16 * (figures.linearity.cln as usize)
 }
 
 // Figures by themselves, 2 to 6 in sheet order, or 0: as in a sheet with room for all of them.

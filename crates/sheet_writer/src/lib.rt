@@ -158,18 +158,13 @@ fn put_sheet(out: &mut [u8], figures: Calibration)
     requires { ⌜ (figures .temperature .ctn ≤ 5) × (figures .linearity .cln ≤ 7) × (sheetLength figures ≤ length (now out)) ⌝ }
     ensures { λ _. ⌜ Wrote (now (out .entry)) (now (out .exit)) 0 (sheetLength figures) (sheetBytes figures) ⌝ }
 {
-    let cell = figures.cell;
-    let temperature = figures.temperature;
-    let linearity = figures.linearity;
-    let system = figures.system;
-    let filter = figures.filter;
-    let linearity_at = 34 + 24 * (temperature.ctn as usize);
-    let system_at = linearity_at + 1 + 16 * (linearity.cln as usize);
-    put_cell(out, 0, cell);
-    put_temperature(out, 33, temperature);
-    put_linearity(out, linearity_at, linearity);
-    put_system(out, system_at, system);
-    put_filter(out, system_at + 41, filter);
+    let linearity_at = 34 + 24 * (figures.temperature.ctn as usize);
+    let system_at = linearity_at + 1 + 16 * (figures.linearity.cln as usize);
+    put_cell(out, 0, figures.cell);
+    put_temperature(out, 33, figures.temperature);
+    put_linearity(out, linearity_at, figures.linearity);
+    put_system(out, system_at, figures.system);
+    put_filter(out, system_at + 41, figures.filter);
 }
 
 // Writes a sheet at the front of `out`, or refuses and leaves `out` as it was.
