@@ -1,4 +1,5 @@
-// Writing a calibration sheet (01, "The calibration sheet") straight into a lent buffer.
+// Writing a calibration sheet (01, "The calibration sheet") straight into a lent buffer: a section is its count, one byte, and then
+// its figures.
 ghost use mathlib.Core.Path.{_≡_};
 ghost use mathlib.Core.List.{_++_, _∷_, []};
 ghost use Prim.Native.Nat.{_+_, _*_, _≤_, _<_};
@@ -27,13 +28,6 @@ pub struct Written {
     pub length: usize,
 }
 
-fn put_count(out: &mut [u8], at: usize, count: u8)
-    requires { ⌜ at < length (now out) ⌝ }
-    ensures { λ _. ⌜ Wrote (now (out .entry)) (now (out .exit)) at (at + 1) (count ∷ []) ⌝ }
-{
-    out[at] = count;
-}
-
 fn put_figure(out: &mut [u8], at: usize, v: i64)
     requires { ⌜ at + 8 ≤ length (now out) ⌝ }
     ensures { λ _. ⌜ Wrote (now (out .entry)) (now (out .exit)) at (at + 8) (figureBytes v) ⌝ }
@@ -41,7 +35,7 @@ fn put_figure(out: &mut [u8], at: usize, v: i64)
     let mut word = unsigned(v);
     let mut i: usize = 0;
     while i < 8 {
-        put_count(out, at + i, (word % 256) as u8);
+        out[at + i] = (word % 256) as u8;
         word = word / 256;
         i += 1;
     }
@@ -61,7 +55,7 @@ fn put_cell(out: &mut [u8], at: usize, cell: Cell)
     requires { ⌜ at + 33 ≤ length (now out) ⌝ }
     ensures { λ _. ⌜ Wrote (now (out .entry)) (now (out .exit)) at (at + 33) (cellBytes cell) ⌝ }
 {
-    put_count(out, at, 4);
+    out[at] = 4;
     put_four(out, at + 1, cell.cofs, cell.cgai, cell.cmin, cell.cmax);
 }
 
@@ -93,7 +87,7 @@ fn put_temperature(out: &mut [u8], at: usize, temperature: Temperature)
 {
     let ctn = temperature.ctn;
     let points = temperature.points;
-    put_count(out, at, ctn);
+    out[at] = ctn;
     put_temperature_points(out, at + 1, points, ctn as usize);
 }
 
@@ -124,7 +118,7 @@ fn put_linearity(out: &mut [u8], at: usize, linearity: Linearity)
 {
     let cln = linearity.cln;
     let points = linearity.points;
-    put_count(out, at, cln);
+    out[at] = cln;
     put_linearity_points(out, at + 1, points, cln as usize);
 }
 
@@ -132,7 +126,7 @@ fn put_system(out: &mut [u8], at: usize, system: System)
     requires { ⌜ at + 41 ≤ length (now out) ⌝ }
     ensures { λ _. ⌜ Wrote (now (out .entry)) (now (out .exit)) at (at + 41) (systemBytes system) ⌝ }
 {
-    put_count(out, at, 5);
+    out[at] = 5;
     put_four(
         out,
         at + 1,
@@ -148,7 +142,7 @@ fn put_filter(out: &mut [u8], at: usize, filter: Filter)
     requires { ⌜ at + 17 ≤ length (now out) ⌝ }
     ensures { λ _. ⌜ Wrote (now (out .entry)) (now (out .exit)) at (at + 17) (filterBytes filter) ⌝ }
 {
-    put_count(out, at, 2);
+    out[at] = 2;
     put_figure(out, at + 1, filter.fflv);
     put_figure(out, at + 9, filter.ffst);
 }

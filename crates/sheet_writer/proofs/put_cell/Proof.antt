@@ -1,9 +1,10 @@
 -- One piece behind the other. Assumes nothing.
-use Rattle.sheet_writer.proofs.Pieces.{four-as, wrote-as, wrote-more}
+use Rattle.sheet_writer.proofs.Pieces.{four-as, store, wrote-as, wrote-more}
 use Rattle.sheet.specs.Bytes.{figureBytes}
 use Rattle.sheet.specs.Write.{cellBytes}
+use lib.ListN.{length-set}
 use mathlib.Core.List.{[], _∷_, append-assoc}
-use mathlib.Core.Path.{_≡_, refl}
+use mathlib.Core.Path.{_∙_, _≡_, refl}
 use mir.Syntax.{w64}
 use mir.Val.{ofZ, toZ}
 use native.Mathlib.Omega.{arith}
@@ -11,28 +12,28 @@ use borrow.Author.Needs.{needs}
 use Rattle.sheet_writer.proofs.put_cell.Statement.{statement}
 use Rattle.sheet_writer.proofs.put_cell.Tie as tie
 
-put-count-requires : tie.Need-put-count-requires
-put-count-requires c κs = search needs
+slice-write-out : tie.Need-slice-write-out
+slice-write-out c = search needs
 
 add-put-four : tie.Need-add-put-four
 add-put-four c = search needs
 
 put-four-requires : tie.Need-put-four-requires
-put-four-requires c κs = search needs
+put-four-requires c κs = simp length-set (omega arith)
 
 same-length : tie.Need-same-length
-same-length c = search needs
+same-length c = c .before .before .put-four .ensures .same ∙ simp length-set
 
 returns : tie.Need-returns
 unfolding cellBytes
 returns c =
-    let s = c .before .before .before .before .before .before .before .before .before .before .before .before .before in
+    let s = c .before .before .before .before .before .before .before .before .before in
     let b1 : toZ w64 (ofZ w64 (s .args .cell .cofs)) ≡ s .args .cell .cofs = search needs in
     let b2 : toZ w64 (ofZ w64 (s .args .cell .cgai)) ≡ s .args .cell .cgai = search needs in
     let b3 : toZ w64 (ofZ w64 (s .args .cell .cmin)) ≡ s .args .cell .cmin = search needs in
     let b4 : toZ w64 (ofZ w64 (s .args .cell .cmax)) ≡ s .args .cell .cmax = search needs in
-    wrote-as (wrote-more (wrote-as {ys = 4 ∷ []} (c .before .before .before .before .before .before .before .before .before .before .put-count .ensures) refl refl) (omega arith) (omega arith) (wrote-as (c .before .before .put-four .ensures) refl (four-as figureBytes b1 b2 b3 b4))) (omega arith) (simp append-assoc)
+    wrote-as (wrote-more (store (s .args .out .now) (s .args .at) 4 (omega arith)) (omega arith) (omega arith) (wrote-as (c .before .before .put-four .ensures) refl (four-as figureBytes b1 b2 b3 b4))) (omega arith) (simp append-assoc)
 
 pub put-cell-spec : {M : Type 1} → statement M
 put-cell-spec =
-    tie.close (tie.spec put-count-requires add-put-four put-four-requires same-length returns)
+    tie.close (tie.spec slice-write-out add-put-four put-four-requires same-length returns)

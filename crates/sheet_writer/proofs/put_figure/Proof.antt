@@ -1,7 +1,7 @@
 -- Invariant: what is written and what is left of the word make up the eight bytes. Assumes nothing.
-use Prim.Native.Nat.{_+_, _-_, _≤_, suc, ℕ}
+use Prim.Native.Nat.{_%_, _+_, _-_, _≤_, suc, ℕ}
 use Rattle.integers.proofs.Machine.{fits}
-use Rattle.sheet_writer.proofs.Pieces.{byte-more, later}
+use Rattle.sheet_writer.proofs.Pieces.{byte-more, later, store}
 use Rattle.sheet.specs.Bytes.{figureBytes, wordBytes}
 use lib.ListN.{drop, length, take}
 use mathlib.Core.List.{_++_, append-nil}
@@ -26,14 +26,14 @@ loop-holds c =
     let e : c .before .before .args .at + 0 ≡ c .before .before .args .at = omega arith in
     (rw e, refl, refl, omega arith)
 
-add-put-count : tie.Need-add-put-count Inv-loop μ-loop
-add-put-count c = omega arith
+cast-out : tie.Need-cast-out Inv-loop μ-loop
+cast-out c = omega arith
 
-cast-put-count : tie.Need-cast-put-count Inv-loop μ-loop
-cast-put-count c = omega arith
+add-out : tie.Need-add-out Inv-loop μ-loop
+add-out c = omega arith
 
-put-count-requires : tie.Need-put-count-requires Inv-loop μ-loop
-put-count-requires c κs = omega arith
+slice-write-out : tie.Need-slice-write-out Inv-loop μ-loop
+slice-write-out c = omega arith
 
 add-i : tie.Need-add-i Inv-loop μ-loop
 add-i c = omega arith
@@ -43,11 +43,11 @@ loop-less c = omega arith
 
 loop-again : tie.Need-loop-again Inv-loop μ-loop
 loop-again c =
-    let l = c .before .before .before .before .before .loop in
-    let at = c .before .before .before .before .before .before .before .before .args .at in
+    let l = c .before .loop in
+    let at = c .before .before .before .before .args .at in
     let e : at + (l .i + 1) ≡ at + l .i + 1 = omega arith in
     let d : 8 - l .i ≡ suc (8 - (l .i + 1)) = omega arith in
-    let w = c .before .before .put-count .ensures in
+    let w = store (l .out) (at + l .i) (l .word % 256) (omega arith) in
     (byte-more (take (at + l .i) (l .out)) _ _ _ (l .word) d (l .inv .0) (rw (← e) at (w .front)), omega (arith, w .same), later _ _ {q = at + l .i + 1} {r = at + 8} (omega arith) (w .rest) ∙ l .inv .2, omega arith)
 
 same-length : tie.Need-same-length Inv-loop μ-loop
@@ -70,9 +70,9 @@ put-figure-spec =
     μ-loop
     unsigned-requires
     loop-holds
-    add-put-count
-    cast-put-count
-    put-count-requires
+    cast-out
+    add-out
+    slice-write-out
     add-i
     loop-less
     loop-again

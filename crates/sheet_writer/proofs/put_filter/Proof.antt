@@ -1,9 +1,10 @@
 -- One piece behind the other. Assumes nothing.
-use Rattle.sheet_writer.proofs.Pieces.{wrote-as, wrote-more}
+use Rattle.sheet_writer.proofs.Pieces.{store, wrote-as, wrote-more}
 use Rattle.sheet.specs.Bytes.{figureBytes}
 use Rattle.sheet.specs.Write.{filterBytes}
+use lib.ListN.{length-set}
 use mathlib.Core.List.{[], _∷_, append-assoc}
-use mathlib.Core.Path.{_≡_, ap, refl}
+use mathlib.Core.Path.{_∙_, _≡_, ap, refl}
 use mir.Syntax.{w64}
 use mir.Val.{ofZ, toZ}
 use native.Mathlib.Omega.{arith}
@@ -11,37 +12,37 @@ use borrow.Author.Needs.{needs}
 use Rattle.sheet_writer.proofs.put_filter.Statement.{statement}
 use Rattle.sheet_writer.proofs.put_filter.Tie as tie
 
-put-count-requires : tie.Need-put-count-requires
-put-count-requires c κs = search needs
+slice-write-out : tie.Need-slice-write-out
+slice-write-out c = search needs
 
 add-put-figure : tie.Need-add-put-figure
 add-put-figure c = search needs
 
 put-figure-requires : tie.Need-put-figure-requires
-put-figure-requires c κs = search needs
+put-figure-requires c κs = simp length-set (omega arith)
 
 add-put-figure-2 : tie.Need-add-put-figure-2
 add-put-figure-2 c = search needs
 
 put-figure-requires-2 : tie.Need-put-figure-requires-2
-put-figure-requires-2 c κs = search needs
+put-figure-requires-2 c κs = omega (arith, simp length-set at (c .before .before .before .before .put-figure .ensures .same))
 
 same-length : tie.Need-same-length
-same-length c = search needs
+same-length c = c .before .before .put-figure2 .ensures .same ∙ c .before .before .before .before .before .before .before .put-figure .ensures .same ∙ simp length-set
 
 returns : tie.Need-returns
 unfolding filterBytes
 returns c =
-    let s = c .before .before .before .before .before .before .before .before .before .before .before .before .before .before .before in
+    let s = c .before .before .before .before .before .before .before .before .before .before .before in
     let b1 : toZ w64 (ofZ w64 (s .args .filter .fflv)) ≡ s .args .filter .fflv = search needs in
     let b2 : toZ w64 (ofZ w64 (s .args .filter .ffst)) ≡ s .args .filter .ffst = search needs in
-    wrote-as (wrote-more (wrote-more (wrote-as {ys = 2 ∷ []} (c .before .before .before .before .before .before .before .before .before .before .before .before .put-count .ensures) refl refl) (omega arith) (omega arith) (wrote-as (c .before .before .before .before .before .before .before .put-figure .ensures) refl (ap figureBytes b1))) (omega arith) (omega arith) (wrote-as (c .before .before .put-figure2 .ensures) refl (ap figureBytes b2))) (omega arith) (simp append-assoc)
+    wrote-as (wrote-more (wrote-more (store (s .args .out .now) (s .args .at) 2 (omega arith)) (omega arith) (omega arith) (wrote-as (c .before .before .before .before .before .before .before .put-figure .ensures) refl (ap figureBytes b1))) (omega arith) (omega arith) (wrote-as (c .before .before .put-figure2 .ensures) refl (ap figureBytes b2))) (omega arith) (simp append-assoc)
 
 pub put-filter-spec : {M : Type 1} → statement M
 put-filter-spec =
     tie.close
     (tie.spec
-    put-count-requires
+    slice-write-out
     add-put-figure
     put-figure-requires
     add-put-figure-2

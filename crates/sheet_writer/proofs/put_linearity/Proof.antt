@@ -1,15 +1,16 @@
 -- One piece behind the other. Assumes nothing.
-use Rattle.sheet_writer.proofs.Pieces.{wrote-as, wrote-more}
+use Rattle.sheet_writer.proofs.Pieces.{store, wrote-as, wrote-more}
 use Rattle.sheet.specs.Write.{linearityBytes}
+use lib.ListN.{length-set}
 use mathlib.Core.List.{[], _∷_}
-use mathlib.Core.Path.{refl}
+use mathlib.Core.Path.{_∙_, refl}
 use native.Mathlib.Omega.{arith}
 use borrow.Author.Needs.{needs}
 use Rattle.sheet_writer.proofs.put_linearity.Statement.{statement}
 use Rattle.sheet_writer.proofs.put_linearity.Tie as tie
 
-put-count-requires : tie.Need-put-count-requires
-put-count-requires c κs = search needs
+slice-write-out : tie.Need-slice-write-out
+slice-write-out c = search needs
 
 add-put-linearity-points : tie.Need-add-put-linearity-points
 add-put-linearity-points c = search needs
@@ -21,19 +22,19 @@ put-linearity-points-requires : tie.Need-put-linearity-points-requires
 put-linearity-points-requires c κs = search needs
 
 same-length : tie.Need-same-length
-same-length c = search needs
+same-length c = c .before .before .put-linearity-points .ensures .same ∙ simp length-set
 
 returns : tie.Need-returns
 unfolding linearityBytes
 returns c =
-    let s = c .before .before .before .before .before .before .before .before .before .before in
-    wrote-more (wrote-as {ys = s .args .linearity .cln ∷ []} (c .before .before .before .before .before .before .put-count .ensures) refl refl) refl (omega arith) (c .before .before .put-linearity-points .ensures)
+    let s = c .before .before .before .before .before .before in
+    wrote-more (store (s .args .out .now) (s .args .at) (s .args .linearity .cln) (omega arith)) refl (omega arith) (c .before .before .put-linearity-points .ensures)
 
 pub put-linearity-spec : {M : Type 1} → statement M
 put-linearity-spec =
     tie.close
     (tie.spec
-    put-count-requires
+    slice-write-out
     add-put-linearity-points
     cast-put-linearity-points
     put-linearity-points-requires

@@ -1,9 +1,10 @@
 -- One piece behind the other. Assumes nothing.
-use Rattle.sheet_writer.proofs.Pieces.{four-as, wrote-as, wrote-more}
+use Rattle.sheet_writer.proofs.Pieces.{four-as, store, wrote-as, wrote-more}
 use Rattle.sheet.specs.Bytes.{figureBytes}
 use Rattle.sheet.specs.Write.{systemBytes}
+use lib.ListN.{length-set}
 use mathlib.Core.List.{[], _∷_, append-assoc}
-use mathlib.Core.Path.{_≡_, ap, refl}
+use mathlib.Core.Path.{_∙_, _≡_, ap, refl}
 use mir.Syntax.{w64}
 use mir.Val.{ofZ, toZ}
 use native.Mathlib.Omega.{arith}
@@ -11,40 +12,40 @@ use borrow.Author.Needs.{needs}
 use Rattle.sheet_writer.proofs.put_system.Statement.{statement}
 use Rattle.sheet_writer.proofs.put_system.Tie as tie
 
-put-count-requires : tie.Need-put-count-requires
-put-count-requires c κs = search needs
+slice-write-out : tie.Need-slice-write-out
+slice-write-out c = search needs
 
 add-put-four : tie.Need-add-put-four
 add-put-four c = search needs
 
 put-four-requires : tie.Need-put-four-requires
-put-four-requires c κs = search needs
+put-four-requires c κs = simp length-set (omega arith)
 
 add-put-figure : tie.Need-add-put-figure
 add-put-figure c = search needs
 
 put-figure-requires : tie.Need-put-figure-requires
-put-figure-requires c κs = search needs
+put-figure-requires c κs = omega (arith, simp length-set at (c .before .before .before .before .put-four .ensures .same))
 
 same-length : tie.Need-same-length
-same-length c = search needs
+same-length c = c .before .before .put-figure .ensures .same ∙ c .before .before .before .before .before .before .before .put-four .ensures .same ∙ simp length-set
 
 returns : tie.Need-returns
 unfolding systemBytes
 returns c =
-    let s = c .before .before .before .before .before .before .before .before .before .before .before .before .before .before .before .before .before .before in
+    let s = c .before .before .before .before .before .before .before .before .before .before .before .before .before .before in
     let b1 : toZ w64 (ofZ w64 (s .args .system .sofs)) ≡ s .args .system .sofs = search needs in
     let b2 : toZ w64 (ofZ w64 (s .args .system .sgai)) ≡ s .args .system .sgai = search needs in
     let b3 : toZ w64 (ofZ w64 (s .args .system .smin)) ≡ s .args .system .smin = search needs in
     let b4 : toZ w64 (ofZ w64 (s .args .system .smax)) ≡ s .args .system .smax = search needs in
     let b5 : toZ w64 (ofZ w64 (s .args .system .sz)) ≡ s .args .system .sz = search needs in
-    wrote-as (wrote-more (wrote-more (wrote-as {ys = 5 ∷ []} (c .before .before .before .before .before .before .before .before .before .before .before .before .before .before .before .put-count .ensures) refl refl) (omega arith) (omega arith) (wrote-as (c .before .before .before .before .before .before .before .put-four .ensures) refl (four-as figureBytes b1 b2 b3 b4))) (omega arith) (omega arith) (wrote-as (c .before .before .put-figure .ensures) refl (ap figureBytes b5))) (omega arith) (simp append-assoc)
+    wrote-as (wrote-more (wrote-more (store (s .args .out .now) (s .args .at) 5 (omega arith)) (omega arith) (omega arith) (wrote-as (c .before .before .before .before .before .before .before .put-four .ensures) refl (four-as figureBytes b1 b2 b3 b4))) (omega arith) (omega arith) (wrote-as (c .before .before .put-figure .ensures) refl (ap figureBytes b5))) (omega arith) (simp append-assoc)
 
 pub put-system-spec : {M : Type 1} → statement M
 put-system-spec =
     tie.close
     (tie.spec
-    put-count-requires
+    slice-write-out
     add-put-four
     put-four-requires
     add-put-figure

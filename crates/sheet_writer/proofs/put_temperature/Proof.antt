@@ -1,15 +1,16 @@
 -- One piece behind the other. Assumes nothing.
-use Rattle.sheet_writer.proofs.Pieces.{wrote-as, wrote-more}
+use Rattle.sheet_writer.proofs.Pieces.{store, wrote-as, wrote-more}
 use Rattle.sheet.specs.Write.{temperatureBytes}
+use lib.ListN.{length-set}
 use mathlib.Core.List.{[], _∷_}
-use mathlib.Core.Path.{refl}
+use mathlib.Core.Path.{_∙_, refl}
 use native.Mathlib.Omega.{arith}
 use borrow.Author.Needs.{needs}
 use Rattle.sheet_writer.proofs.put_temperature.Statement.{statement}
 use Rattle.sheet_writer.proofs.put_temperature.Tie as tie
 
-put-count-requires : tie.Need-put-count-requires
-put-count-requires c κs = search needs
+slice-write-out : tie.Need-slice-write-out
+slice-write-out c = search needs
 
 add-put-temperature-points : tie.Need-add-put-temperature-points
 add-put-temperature-points c = search needs
@@ -21,19 +22,19 @@ put-temperature-points-requires : tie.Need-put-temperature-points-requires
 put-temperature-points-requires c κs = search needs
 
 same-length : tie.Need-same-length
-same-length c = search needs
+same-length c = c .before .before .put-temperature-points .ensures .same ∙ simp length-set
 
 returns : tie.Need-returns
 unfolding temperatureBytes
 returns c =
-    let s = c .before .before .before .before .before .before .before .before .before .before in
-    wrote-more (wrote-as {ys = s .args .temperature .ctn ∷ []} (c .before .before .before .before .before .before .put-count .ensures) refl refl) refl (omega arith) (c .before .before .put-temperature-points .ensures)
+    let s = c .before .before .before .before .before .before in
+    wrote-more (store (s .args .out .now) (s .args .at) (s .args .temperature .ctn) (omega arith)) refl (omega arith) (c .before .before .put-temperature-points .ensures)
 
 pub put-temperature-spec : {M : Type 1} → statement M
 put-temperature-spec =
     tie.close
     (tie.spec
-    put-count-requires
+    slice-write-out
     add-put-temperature-points
     cast-put-temperature-points
     put-temperature-points-requires
