@@ -22,7 +22,7 @@ use Rattle.modbus.proofs.Replies.{length-framed, value-fits, write-fits, except
 use Rattle.modbus.specs.declared.frame.Frame.{Frame}
 use Rattle.modbus.specs.declared.frame.Frame.the-variants.{Write, Read, Act}
 use Rattle.state.specs.Reading.{badReading, taken}
-use Rattle.state.specs.Request.{requested, zeroBy, setupBy, stateBy, fresh, snapped, peaksAt, peaksReset}
+use Rattle.state.specs.Request.{requested, zeroBy, stateBy, fresh, snapped, peaksAt, peaksReset}
 use Rattle.state.specs.Register.{stepsAt, readingFloat, readingAt, registerAt, onReading, answered, numberOf}
 use Rattle.state.specs.Report.{reported}
 use Rattle.state.specs.declared.State.{State}
