@@ -1,15 +1,15 @@
 -- Steps 2 to 5 (01, "The reading"), in whole numbers, from the figures, ELEC as the filter holds it, and TEMP.
-use Prim.Native.Nat.{_^_}
 use lib.IntN.{ℤ, pos, _+ℤ_, _-ℤ_, _*ℤ_}
 use Rattle.arithmetic.specs.Round.{roundDiv}
 use Rattle.arithmetic.specs.Table.{interpolated}
+use Rattle.figures.specs.Limits.{unit}
 use Rattle.figures.specs.Acceptable.{temperatures, linearities}
 use Rattle.figures.specs.declared.Calibration.{Calibration}
 use Rattle.compensation.specs.Hold.{hold}
 
 -- 1 as a gain: "Gains and gain adjustments count in 1/268,435,456 (2^28 parts to 1)."
 abbrev pub one : ℤ
-one = pos (2 ^ 28)
+one = pos unit
 
 -- x times a gain: round(x × gain ÷ 2^28)
 unfoldable pub scaled : ℤ → ℤ → ℤ

@@ -56,14 +56,27 @@ lcinteg = 11
 -- 7,864,320), CRAWUR 64 and CRAWOR 128 (raw cell beyond CMIN, CMAX), SYSUR 256 and SYSOR 512 (raw system beyond SMIN, SMAX),
 -- LCINTEG 2048 (fault)"
 
+-- TEMP's range, and ELEC's
+abbrev pub tempUnder : ℤ
+tempUnder = negℤ (pos 3276800)
+
+abbrev pub tempOver : ℤ
+tempOver = pos 5898240
+
+abbrev pub elecUnder : ℤ
+elecUnder = negℤ (pos 7864320)
+
+abbrev pub elecOver : ℤ
+elecOver = pos 7864320
+
 -- a value below lo, or above hi
 abbrev pub range : ℤ → ℤ → ℤ → ℕ → ℕ → ℕ
 range lo hi x under over = bitOr (weigh (ltZ x lo) under) (weigh (ltZ hi x) over)
 
 unfoldable pub statOf : Calibration → ℤ → ℤ → ℤ → ℤ → ℕ → ℕ
 statOf c elec temp cell system integrity =
-    bitOr (range (negℤ (pos 3276800)) (pos 5898240) temp 4 8)
-    (bitOr (range (negℤ (pos 7864320)) (pos 7864320) elec 16 32)
+    bitOr (range tempUnder tempOver temp 4 8)
+    (bitOr (range elecUnder elecOver elec 16 32)
     (bitOr (range (c .cell .cmin) (c .cell .cmax) cell 64 128)
     (bitOr (range (c .system .smin) (c .system .smax) system 256 512)
     (weigh (eqb integrity 1) 2048))))

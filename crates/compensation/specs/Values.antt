@@ -2,6 +2,7 @@
 use Prim.Native.Nat.{ℕ}
 use lib.IntN.{ℤ}
 use Rattle.integers.specs.Within.{_within_}
+use Rattle.figures.specs.Limits.{ctoMost, ctgMost, cellMost, systemMost}
 use Rattle.figures.specs.Acceptable.{Acceptable, CellAcceptable, LinearityAcceptable, SystemAcceptable}
 use Rattle.figures.specs.declared.Cell.{Cell}
 use Rattle.figures.specs.declared.Linearity.{Linearity}
@@ -29,16 +30,16 @@ pub record ReadingInput (c : Calibration) (elec : ℤ) : Type 0 where
 
 pub record GainInput (c : Cell) (o elec : ℤ) : Type 0 where
   pub acceptable : CellAcceptable c
-  pub o-in : o within 1310720
+  pub o-in : o within ctoMost
   pub elec-in : elec within elecMost
 
 pub record AdjustInput (y g : ℤ) : Type 0 where
   pub y-in : y within 2600468480
-  pub g-in : g within 26843545
+  pub g-in : g within ctgMost
 
 pub record CorrectInput (l : Linearity) (craw : ℤ) : Type 0 where
   pub acceptable : LinearityAcceptable l
-  pub craw-in : craw within 2097152000
+  pub craw-in : craw within cellMost
 
 pub record SystemInput (s : System) (cell : ℤ) : Type 0 where
   pub acceptable : SystemAcceptable s
@@ -46,4 +47,4 @@ pub record SystemInput (s : System) (cell : ℤ) : Type 0 where
 
 pub record NetInput (s : System) (sraw : ℤ) : Type 0 where
   pub acceptable : SystemAcceptable s
-  pub sraw-in : sraw within 2097152000
+  pub sraw-in : sraw within systemMost
