@@ -17,3 +17,4 @@ pub mod Judged
 pub mod Theorems
 pub mod Range
 pub mod Edges
+mod Apart

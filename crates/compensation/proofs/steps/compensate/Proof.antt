@@ -15,9 +15,6 @@ use Rattle.compensation.proofs.Magnitudes.{Magnitudes, magnitudes}
 use Rattle.compensation.proofs.steps.compensate.Statement.{statement}
 use Rattle.compensation.proofs.steps.compensate.Tie as tie
 
-adjustments-requires : tie.Need-adjustments-requires
-adjustments-requires c κs = search needs
-
 in-range : (s : tie.Start) → Magnitudes (s .args .c) (s .args .elec) (s .args .temp)
 in-range s = magnitudes (s .args .c) (s .args .elec) (s .args .temp) (s .pre .acceptable) (s .pre .elec-in)
 
@@ -108,9 +105,6 @@ adjusted-requires c κs =
     let s = c .before .before .before .before in
     rw (y-held (c .before), g-held (c .before .before .before)) (record { y-in = in-range s .y-within; g-in = in-range s .g-within })
 
-hold-cell-requires : tie.Need-hold-cell-requires
-hold-cell-requires c κs = search needs
-
 corrected-requires : tie.Need-corrected-requires
 corrected-requires c κs =
     let s = c .before .before .before .before .before .before in
@@ -121,16 +115,10 @@ scaled-system-requires c κs =
     let s = c .before .before .before .before .before .before .before in
     rw (cell-held c) (record { acceptable = s .pre .acceptable .system-ok; cell-in = in-range s .cell-within })
 
-hold-system-requires : tie.Need-hold-system-requires
-hold-system-requires c κs = search needs
-
 net-requires : tie.Need-net-requires
 net-requires c κs =
     let s = c .before .before .before .before .before .before .before .before .before in
     rw (sraw-held c) (record { acceptable = s .pre .acceptable .system-ok; sraw-in = in-range s .sraw-within })
-
-stat-bits-requires : tie.Need-stat-bits-requires
-stat-bits-requires c κs = search needs
 
 returns : tie.Need-returns
 unfolding valuesOf
@@ -143,13 +131,13 @@ pub compensate-spec : {M : Type 1} → statement M
 compensate-spec =
     tie.close
     (tie.spec
-    adjustments-requires
+    (λ c κs. search needs)
     gained-requires
     adjusted-requires
-    hold-cell-requires
+    (λ c κs. search needs)
     corrected-requires
     scaled-system-requires
-    hold-system-requires
+    (λ c κs. search needs)
     net-requires
-    stat-bits-requires
+    (λ c κs. search needs)
     returns)
