@@ -44,18 +44,21 @@ pub struct Cursor<'a> {
     pub at: usize,
 }
 
+// At the sheet's first byte.
 pub fn start<'a>(sheet: &'a [u8]) -> Cursor<'a>
     ensures { λ r. ⌜ (r .sheet ≡ sheet .entry) × (r .at ≡ 0) ⌝ }
 {
     Cursor { sheet, at: 0 }
 }
 
+// The count that stands where the cursor is; a caller goes on from the place that is given.
 pub fn count<'a>(c: Cursor<'a>) -> CountStep
     ensures { λ r. ⌜ r ≡ countStep (now (c .entry .sheet)) (c .entry .at) ⌝ }
 {
     next_count(c.sheet, c.at)
 }
 
+// The figure that stands there, likewise.
 pub fn figure<'a>(c: Cursor<'a>) -> FigureStep
     ensures { λ r. ⌜ r ≡ figureStep (now (c .entry .sheet)) (c .entry .at) ⌝ }
 {
