@@ -110,7 +110,8 @@ converter_reported converter_report(const converter_device *device);
 
 /* A bus frame of `length` bytes, checksum included, and a buffer for the reply. Answers 0; or 12 to 16, then 10 or
  * 11, and the record is as it was. A reply has 9 bytes (a read), 8 (a write) or 5 (an exception, to 10, 11, 14, 15
- * and 16); there is none to 12, to 13, and to a broadcast. The bytes of the buffer past the reply are untouched. */
+ * and 16); there is none to 12, to 13, and to a broadcast. The length replied is never over `room`, and the bytes of
+ * the buffer past the reply are untouched. */
 converter_answered converter_frame(converter_device *device, const uint8_t *frame, size_t length, uint8_t *reply,
                                    size_t room);
 

@@ -1,4 +1,4 @@
-//! The proved library, linked as libboard.a: the declarations of API.md and the trait over them.
+//! The proved library, linked as libboard.a: the declarations of include/converter.h, and the trait over them.
 //! `bool` is declared as a byte here, so that no byte the archive stores can be undefined.
 
 use model::sheet::{LinearityPoint, TemperaturePoint};
@@ -33,7 +33,7 @@ record!(Answered { number: u8, length: usize });
 extern "C" {
     fn converter_make(device: *mut Device, sheet: *const u8, n: usize, station: u8) -> u8;
     fn converter_reading(device: *mut Device, elec: i64, temp: i64, integrity: u8) -> u8;
-    fn converter_report(device: *mut Device) -> Reported;
+    fn converter_report(device: *const Device) -> Reported;
     fn converter_frame(device: *mut Device, frame: *const u8, n: usize, reply: *mut u8, room: usize) -> Answered;
 }
 
