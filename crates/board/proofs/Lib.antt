@@ -2,3 +2,4 @@ mod Field
 mod Kept
 mod Record
 mod Outcome
+mod Call

@@ -84,6 +84,7 @@ use Rattle.converter.proofs.answer as answer
 use Rattle.converter.proofs.answer.Symbol as answer-def
 use Rattle.converter.proofs.answer.Symbol.{name as #converter·answer}
 use Rattle.converter.proofs.answer.Met as answer-thm
+use Rattle.board.proofs.Call.{calls-plain}
 use Rattle.board.proofs.Kept.{mach, mach-state, IsDevice, tells, state-tells, known, state-typed, number, zeroed, rezero, rezero-is, state-is, station-fits, sz-is, rezeroed}
 use Rattle.board.proofs.Record.{cell-of, apart, together, setup-at, figures-at, station-at, system-at, sz-at, state-at, station-in, sz-in, state-in}
 use Rattle.board.proofs.converter_frame.Key.{name as #board·converter-frame}
@@ -197,33 +198,6 @@ module _ {M : Type 1} (𝓤 : URA M) (H : Heap 𝓤) (A : Atoms 𝓤) (W : Given
     abbrev Replied : Answered → List ℕ → Type 0
     Replied r zs = Answering (answered (h .state) sz a) (xf .now) (xr .now) zs r
 
-    abbrev to-zero : Zero 𝓤 H A at-mem run .Ghost
-    to-zero = ((tt, tt, tt, (sz, (a, tt)), (number sz ∷ [], (va ∷ [], tt))), tt)
-
-    zero-asks : IsDevice h → ent 𝓤 (emp 𝓤) (Zero 𝓤 H A at-mem run .pre to-zero)
-    zero-asks was = qed W [] ∵ nothing ! $ owned ! R.the-row (Is R.the-row) (EL.makes R.the-type R′.the-plain 𝓤 H A) a (va ∷ []) a-is $ fjoin ! $ owned ! i64 (Is i64) (sint-makes 𝓤 H A W w64) sz _ (sz-is h was) $ fjoin ! $ nothing ! $ join ! $ frame ! $ done !
-
-    zero-told : (z : ℤ) → ent 𝓤 (ensured 𝓤 H A zero.ended (zero.clauses 𝓤 H A at-mem run) tt (sz, (a, tt)) tt z) (fact 𝓤 (z ≡ zeroBy sz a))
-    zero-told z = exE 𝓤 _ (λ ws. snd∗ 𝓤 (sem 𝓤 H A (lasts zero.ended tt (sz, (a, tt)) ws)) (fact 𝓤 (z ≡ zeroBy sz a)))
-
-    abbrev to-test : Test 𝓤 H A at-mem run .Ghost
-    to-test = ((tt, tt, tt, (a, tt), (va ∷ [], tt)), tt)
-
-    test-asks : ent 𝓤 (emp 𝓤) (Test 𝓤 H A at-mem run .pre to-test)
-    test-asks = qed W [] ∵ nothing ! $ owned ! R.the-row (Is R.the-row) (EL.makes R.the-type R′.the-plain 𝓤 H A) a (va ∷ []) a-is $ fjoin ! $ nothing ! $ join ! $ frame ! $ done !
-
-    test-told : (c : Bool) → ent 𝓤 (ensured 𝓤 H A test.ended (test.clauses 𝓤 H A at-mem run) tt (a, tt) tt c) (fact 𝓤 (c ≡ changesState a))
-    test-told c = exE 𝓤 _ (λ ws. snd∗ 𝓤 (sem 𝓤 H A (lasts test.ended tt (a, tt) ws)) (fact 𝓤 (c ≡ changesState a)))
-
-    abbrev to-turn : Turn 𝓤 H A at-mem run .Ghost
-    to-turn = ((tt, tt, tt, (h .state, (a, tt)), (mach-state (h .state) ∷ [], (va ∷ [], tt))), tt)
-
-    turn-asks : IsDevice h → ent 𝓤 (emp 𝓤) (Turn 𝓤 H A at-mem run .pre to-turn)
-    turn-asks was = qed W [] ∵ nothing ! $ owned ! R.the-row (Is R.the-row) (EL.makes R.the-type R′.the-plain 𝓤 H A) a (va ∷ []) a-is $ fjoin ! $ owned ! S.the-row (Is S.the-row) (LL.makes S.the-type S′.the-plain 𝓤 H A) (h .state) _ (state-is h was) $ fjoin ! $ nothing ! $ join ! $ frame ! $ done !
-
-    turn-told : (s : State) → ent 𝓤 (ensured 𝓤 H A turn.ended (turn.clauses 𝓤 H A at-mem run) tt (h .state, (a, tt)) tt s) (fact 𝓤 (s ≡ stateBy (h .state) a))
-    turn-told s = exE 𝓤 _ (λ ws. snd∗ 𝓤 (sem 𝓤 H A (lasts turn.ended tt (h .state, (a, tt)) ws)) (fact 𝓤 (s ≡ stateBy (h .state) a)))
-
     -- the calls together keep the contract
     served : (r : Answered) (zs : List ℕ) (z : ℤ) (s : State) → Asked a → Replied r zs → z ≡ zeroBy sz a → s ≡ stateBy (h .state) a → Served r z s zs
     served r zs z s asks replies zeroes turns = serves reached (xf .now) (xr .now) zs asks replies (rw zeroes) turns
@@ -266,23 +240,17 @@ module _ {M : Type 1} (𝓤 : URA M) (H : Heap 𝓤) (A : Atoms 𝓤) (W : Given
         -- [the other tokens; the last list; true; the record's cell; the open borrow; obs; auth; true; _15; …]
         land ! (from ! (stop !)) (init ! 28 refl (LL.lawful B.the-type B′.the-laws 𝓤 H A W .typed r _ r-is .0)) $
         assigns ! (of-opd ! (load ! (from ! (hop ! (look ! 36 refl) (fld ! setup-at (fld ! figures-at (fld ! system-at (fld ! sz-at (stop !))))))) (look-in ! 3 (sz-in ! b o (h .setup .figures) _ _ _)))) (from ! (stop !)) (init ! 14 refl (sint-lawful 𝓤 H A W w64 .typed sz _ (sz-is h was) .0)) $
-        use0 W (raw (Zero 𝓤 H A at-mem run .pre (to-zero a va a-is))) (zero-asks a va a-is was) $ calls-at ! fm (Zero 𝓤 H A at-mem run) zeroes (to-zero a va a-is) (and-then ! (load ! (from ! (stop !)) (look ! 15 refl)) (and-then ! (load ! (from ! (stop !)) (look ! 31 refl)) (no-more !))) (λ vz.
-        use1 W (later (some (λ (z : ℤ). (‵ ftrue ⊛ ‵ (i64 .own z (vz ∷ []))) ⊛ raw (ensured 𝓤 H A zero.ended (zero.clauses 𝓤 H A at-mem run) tt (sz, (a, tt)) tt z)))) (id⊢ 𝓤 _) $ await ! tt $ pick ! (λ z.
-        split ! $ move ! (1 ∷ []) $ use1 W (raw (fact 𝓤 (z ≡ zeroBy sz a))) (zero-told a va a-is z) $ heard ! (z ≡ zeroBy sz a) (λ zeroed-is. split ! $ drop ! $
-        facts ! i64 (Is i64) (shows 𝓤 H A i64) z (vz ∷ []) (λ z-is.
+        calls-plain ! fm zero.ended (zero.clauses 𝓤 H A at-mem run) zeroes (tt, tt, tt, (sz, (a, tt)), (number sz ∷ [], (va ∷ [], tt))) tt (id⊢ 𝓤 _) (sint-makes 𝓤 H A W w64, (EL.makes R.the-type R′.the-plain 𝓤 H A, tt)) (sz-is h was, (a-is, tt)) (id⊢ 𝓤 _) (λ z. z ≡ zeroBy sz a) (λ z e. id⊢ 𝓤 _)
+        (and-then ! (load ! (from ! (stop !)) (look ! 15 refl)) (and-then ! (load ! (from ! (stop !)) (look ! 31 refl)) (no-more !))) (λ vz z zeroed-is z-is.
         land ! (from ! (stop !)) (store ! 20 refl (sint-lawful 𝓤 H A W w64 .typed z _ z-is .0)) $ rewrite ! 20 (λ (u : Val). ‵ (fat fullShare (tyInt w64) l₉ 0 u)) (ap only (sint-tells w64 z _ z-is)) refl $
         assigns ! (of-opd ! (load ! (from ! (stop !)) (look ! 20 refl))) (from ! (hop ! (look ! 36 refl) (fld ! setup-at (fld ! figures-at (fld ! system-at (fld ! sz-at (stop !))))))) (store-in ! 3 (sz-in ! b o (h .setup .figures) _ _ _) (sint-lawful 𝓤 H A W w64 .typed z _ (z-known z vz z-is) .0)) $
-        use0 W (raw (Test 𝓤 H A at-mem run .pre (to-test a va a-is))) (test-asks a va a-is) $ calls-at ! fm (Test 𝓤 H A at-mem run) tests (to-test a va a-is) (and-then ! (load ! (from ! (stop !)) (look ! 31 refl)) (no-more !)) (λ vc.
-        use1 W (later (some (λ (c : Bool). (‵ ftrue ⊛ ‵ (bool .own c (vc ∷ []))) ⊛ raw (ensured 𝓤 H A test.ended (test.clauses 𝓤 H A at-mem run) tt (a, tt) tt c)))) (id⊢ 𝓤 _) $ await ! tt $ pick ! (λ c.
-        split ! $ move ! (1 ∷ []) $ use1 W (raw (fact 𝓤 (c ≡ changesState a))) (test-told a va a-is c) $ heard ! (c ≡ changesState a) (λ changes. split ! $ drop ! $
-        facts ! bool (Is bool) (shows 𝓤 H A bool) c (vc ∷ []) (λ c-is.
+        calls-plain ! fm test.ended (test.clauses 𝓤 H A at-mem run) tests (tt, tt, tt, (a, tt), (va ∷ [], tt)) tt (id⊢ 𝓤 _) (EL.makes R.the-type R′.the-plain 𝓤 H A, tt) (a-is, tt) (id⊢ 𝓤 _) (λ c. c ≡ changesState a) (λ c e. id⊢ 𝓤 _)
+        (and-then ! (load ! (from ! (stop !)) (look ! 31 refl)) (no-more !)) (λ vc c changes c-is.
         land ! (from ! (stop !)) (init ! 12 refl (bool-lawful 𝓤 H A W .typed c _ c-is .0)) $ rewrite ! 12 (λ (u : Val). ‵ (fat fullShare tyBool l₁₃ 0 u)) (ap only c-is) refl $
         first ! $ branches ! (load ! (from ! (stop !)) (look ! 12 refl))
         (λ held. assigns ! (of-opd ! (load ! (from ! (hop ! (look ! 36 refl) (fld ! state-at (stop !)))) (look-in ! 3 (state-in ! b o _ _ _)))) (from ! (stop !)) (init ! 8 refl (state-typed 𝓤 H A W (h .state) (state-is h was))) $
-        use0 W (raw (Turn 𝓤 H A at-mem run .pre (to-turn a va a-is))) (turn-asks a va a-is was) $ calls-at ! fm (Turn 𝓤 H A at-mem run) turns (to-turn a va a-is) (and-then ! (load ! (from ! (stop !)) (look ! 9 refl)) (and-then ! (load ! (from ! (stop !)) (look ! 31 refl)) (no-more !))) (λ vs′.
-        use1 W (later (some (λ (s : State). (‵ ftrue ⊛ ‵ (S.the-row .own s (vs′ ∷ []))) ⊛ raw (ensured 𝓤 H A turn.ended (turn.clauses 𝓤 H A at-mem run) tt (h .state, (a, tt)) tt s)))) (id⊢ 𝓤 _) $ await ! tt $ pick ! (λ s.
-        split ! $ move ! (1 ∷ []) $ use1 W (raw (fact 𝓤 (s ≡ stateBy (h .state) a))) (turn-told a va a-is s) $ heard ! (s ≡ stateBy (h .state) a) (λ turned. split ! $ drop ! $
-        facts ! S.the-row (Is S.the-row) (shows 𝓤 H A S.the-row) s (vs′ ∷ []) (λ s-is.
+        calls-plain ! fm turn.ended (turn.clauses 𝓤 H A at-mem run) turns (tt, tt, tt, (h .state, (a, tt)), (mach-state (h .state) ∷ [], (va ∷ [], tt))) tt (id⊢ 𝓤 _) (LL.makes S.the-type S′.the-plain 𝓤 H A, (EL.makes R.the-type R′.the-plain 𝓤 H A, tt)) (state-is h was, (a-is, tt)) (id⊢ 𝓤 _) (λ s. s ≡ stateBy (h .state) a) (λ s e. id⊢ 𝓤 _)
+        (and-then ! (load ! (from ! (stop !)) (look ! 9 refl)) (and-then ! (load ! (from ! (stop !)) (look ! 31 refl)) (no-more !))) (λ vs′ s turned s-is.
         land ! (from ! (stop !)) (init ! 10 refl (LL.lawful S.the-type S′.the-laws 𝓤 H A W .typed s _ s-is .0)) $ rewrite ! 10 (λ (u : Val). ‵ (fat fullShare S′.mir l₁₄ 0 u)) (ap only (state-tells s _ s-is)) refl $
         assigns-last ! (of-opd ! (load ! (from ! (stop !)) (look ! 10 refl))) (from ! (hop ! (look ! 36 refl) (fld ! state-at (stop !)))) (store-in ! 3 (state-in ! b o _ _ _) (state-typed 𝓤 H A W s (known s vs′ s-is))) $ exec ! C Λ _ t-14 (atRet _ Post) $
         assigns ! (of-opd ! (load ! (from ! (stop !)) (look ! 28 refl))) (from ! (stop !)) (init ! 38 refl (LL.lawful B.the-type B′.the-laws 𝓤 H A W .typed r _ r-is .0)) $
@@ -291,7 +259,7 @@ module _ {M : Type 1} (𝓤 : URA M) (H : Heap 𝓤) (A : Atoms 𝓤) (W : Given
         -- [obs; the borrow; its token; the other tokens; the last list; true; true; _15; …]
         returns ! (look ! 37 refl) $ forget ! 7 refl $ forget ! 9 refl $ forget ! 11 refl $ forget ! 13 refl $ forget ! 15 refl $ forget ! 17 refl $ forget ! 19 refl $ forget ! 21 refl $ forget ! 23 refl $ forget ! 25 refl $ forget ! 27 refl $ forget ! 29 refl $ forget ! 31 refl $ forget ! 33 refl $ forget ! 35 refl $ forget ! 37 refl $
         move ! (37 ∷ 38 ∷ []) $ free1 ! $ move ! (35 ∷ 36 ∷ []) $ free1 ! $ move ! (33 ∷ 34 ∷ []) $ free1 ! $ move ! (31 ∷ 32 ∷ []) $ free1 ! $ move ! (29 ∷ 30 ∷ []) $ free1 ! $ move ! (27 ∷ 28 ∷ []) $ free1 ! $ move ! (25 ∷ 26 ∷ []) $ free1 ! $ move ! (23 ∷ 24 ∷ []) $ free1 ! $ move ! (21 ∷ 22 ∷ []) $ free1 ! $ move ! (19 ∷ 20 ∷ []) $ free1 ! $ move ! (17 ∷ 18 ∷ []) $ free1 ! $ move ! (15 ∷ 16 ∷ []) $ free1 ! $ move ! (13 ∷ 14 ∷ []) $ free1 ! $ move ! (11 ∷ 12 ∷ []) $ free1 ! $ move ! (9 ∷ 10 ∷ []) $ free1 ! $ move ! (7 ∷ 8 ∷ []) $ free1 ! $ free0 ! $
-        keep ! (0 ∷ 1 ∷ 2 ∷ 3 ∷ 4 ∷ []) $ by ! (exits r w z s (zs .1 .1 .1 .1 .0) r-is (served a va a-is r (zs .1 .1 .1 .1 .0) z s asked e zeroed-is turned) l))))))
+        keep ! (0 ∷ 1 ∷ 2 ∷ 3 ∷ 4 ∷ []) $ by ! (exits r w z s (zs .1 .1 .1 .1 .0) r-is (served a va a-is r (zs .1 .1 .1 .1 .0) z s asked e zeroed-is turned) l)))
         (λ kept. skips ! $ exec ! C Λ _ t-14 (atRet _ Post) $
         assigns ! (of-opd ! (load ! (from ! (stop !)) (look ! 28 refl))) (from ! (stop !)) (init ! 38 refl (LL.lawful B.the-type B′.the-laws 𝓤 H A W .typed r _ r-is .0)) $
         move ! (3 ∷ 4 ∷ 5 ∷ 6 ∷ []) $ use1 W (‵ (fat fullShare (rawTy D′.mir) b o (mach (rezero h z (h .state))))) (together 𝓤 H A W b o (rezero h z (h .state)) (rezero-is h z (h .state))) $
@@ -299,7 +267,7 @@ module _ {M : Type 1} (𝓤 : URA M) (H : Heap 𝓤) (A : Atoms 𝓤) (W : Given
         -- [obs; the borrow; its token; the other tokens; the last list; true; true; _15; …]
         returns ! (look ! 37 refl) $ forget ! 11 refl $ forget ! 13 refl $ forget ! 15 refl $ forget ! 17 refl $ forget ! 19 refl $ forget ! 21 refl $ forget ! 23 refl $ forget ! 25 refl $ forget ! 27 refl $ forget ! 29 refl $ forget ! 31 refl $ forget ! 33 refl $ forget ! 35 refl $ forget ! 37 refl $
         move ! (37 ∷ 38 ∷ []) $ free1 ! $ move ! (35 ∷ 36 ∷ []) $ free1 ! $ move ! (33 ∷ 34 ∷ []) $ free1 ! $ move ! (31 ∷ 32 ∷ []) $ free1 ! $ move ! (29 ∷ 30 ∷ []) $ free1 ! $ move ! (27 ∷ 28 ∷ []) $ free1 ! $ move ! (25 ∷ 26 ∷ []) $ free1 ! $ move ! (23 ∷ 24 ∷ []) $ free1 ! $ move ! (21 ∷ 22 ∷ []) $ free1 ! $ move ! (19 ∷ 20 ∷ []) $ free1 ! $ move ! (17 ∷ 18 ∷ []) $ free1 ! $ move ! (15 ∷ 16 ∷ []) $ free1 ! $ move ! (13 ∷ 14 ∷ []) $ free1 ! $ move ! (11 ∷ 12 ∷ []) $ free1 ! $ move ! (9 ∷ 10 ∷ []) $ free1 ! $ move ! (7 ∷ 8 ∷ []) $ free1 ! $ free0 ! $
-        keep ! (0 ∷ 1 ∷ 2 ∷ 3 ∷ 4 ∷ []) $ by ! (exits r w z (h .state) (zs .1 .1 .1 .1 .0) r-is (served a va a-is r (zs .1 .1 .1 .1 .0) z (h .state) asked e zeroed-is (sym (state-unchanged (h .state) a (sym changes ∙ is-false c kept)))) l))))))))))))))))))))))))))))))))))))))
+        keep ! (0 ∷ 1 ∷ 2 ∷ 3 ∷ 4 ∷ []) $ by ! (exits r w z (h .state) (zs .1 .1 .1 .1 .0) r-is (served a va a-is r (zs .1 .1 .1 .1 .0) z (h .state) asked e zeroed-is (sym (state-unchanged (h .state) a (sym changes ∙ is-false c kept)))) l))))))))))))))))))))))))))))))))
 
 module _ {M : Type 1} (𝓤 : URA M) (H : Heap 𝓤) (A : Atoms 𝓤) (W : Given 𝓤 H A) (mem : Memory → SProp 𝓤) (run : Routine → Fun 𝓤) where
   walks : (C : Calls 𝓤 H) (Λ : Loops 𝓤 H) → FmC 𝓤 H (W .laws) C → Triple 𝓤 (C #converter·asked) (Ask 𝓤 H A mem run) → Triple 𝓤 (C #converter·answer) (Answer 𝓤 H A mem run) → Triple 𝓤 (C #state·zero-after) (Zero 𝓤 H A mem run) → Triple 𝓤 (C #state·changes-state) (Test 𝓤 H A mem run) → Triple 𝓤 (C #state·state-after) (Turn 𝓤 H A mem run) → Walks 𝓤 H A f.ended stayed (WpFn 𝓤 H C Λ code.function) (f.clauses 𝓤 H A mem run)

@@ -18,7 +18,7 @@ use prog.Memory.{Memory}
 use prog.Routine.{Routine}
 use prog.Wp.{Heap, Calls, Loops, WpFn, Tables}
 use ghost.Atoms.{Atoms, sem}
-use contract.Monad.{Fun, fact}
+use contract.Monad.{Fun, fact, factI}
 use contract.Running.{givenOf, tables, tablesOf}
 use types.Kit.{Given, ‵, raw, some, later, atRet, _⊛_, _$_, _∵_, !, qed, by, move, keep, drop, use0, use1, split, join, pick, rewrite, fsplit, fsplit3, fjoin, fjoin3, feqI, suffices, frame, await, done}
 use types.Run.{look, init, forget, stop, hop, fld, from, load, lit, of-opd, and-then, no-more, assigns, land, first, branches, skips, exec, returns, returns-within, enter, alloc1, alloc0, params1, pass1, pass0, free1, free0}
@@ -26,7 +26,7 @@ use types.Part.{look-in, store-in}
 use types.SemTy.{Body}
 use sound.WpLaws.{FmC, fmOf, WpFn-mono}
 use denote.RattleType.{owns}
-use denote.Laws.{Is, shows}
+use denote.Laws.{Is, Ises, Are, Makess, shows}
 use denote.Memory.{mem}
 use denote.Plain.{uint-vals, uint-tells, uint-makes, bool-lawful}
 use denote.Signed.{sint-vals, sint-tells, sint-makes, sint-lawful}
@@ -64,6 +64,7 @@ use Rattle.converter.specs.declared.Outcome.{Outcome}
 use Rattle.converter.proofs.Entries.{refuses, takes, joins}
 use Rattle.converter.proofs.Device as D
 use Rattle.converter.proofs.Device.Laws as D′
+use Rattle.board.proofs.Call.{calls-plain}
 use Rattle.board.proofs.Kept.{mach, mach-figures, mach-state, IsDevice, tells, state-tells, known, figures-typed, state-typed, mach-is, figures-is, state-is, restated}
 use Rattle.board.proofs.Record.{cell-of, apart, together, setup-at, figures-at, state-at, figures-in, state-in}
 use Rattle.board.proofs.converter_reading.Key.{name as #board·converter-reading}
@@ -92,6 +93,12 @@ module _ {M : Type 1} (𝓤 : URA M) (H : Heap 𝓤) (A : Atoms 𝓤) (W : Given
   abbrev numbers : List Val × (List Val × (List Val × Unit {0}))
   numbers = (vint w64 (ofZ w64 z) ∷ [], (vint w64 (ofZ w64 t) ∷ [], (vint w8 n ∷ [], tt)))
 
+  abbrev numbers-make : Makess 𝓤 H A (i64 ∷ i64 ∷ u8 ∷ []) (Ises (i64 ∷ i64 ∷ u8 ∷ []))
+  numbers-make = (sint-makes 𝓤 H A W w64, (sint-makes 𝓤 H A W w64, (uint-makes 𝓤 H A W w8, tt)))
+
+  abbrev numbers-are : Are (i64 ∷ i64 ∷ u8 ∷ []) (Ises (i64 ∷ i64 ∷ u8 ∷ [])) (z, (t, (n, tt))) numbers
+  numbers-are = (z-is, (t-is, ((refl, n-fits), tt)))
+
   abbrev at : List Val × (List Val × (List Val × (List Val × Unit {0})))
   at = (vptr b o ∷ [], numbers)
 
@@ -106,32 +113,6 @@ module _ {M : Type 1} (𝓤 : URA M) (H : Heap 𝓤) (A : Atoms 𝓤) (W : Given
       nothing ! $ owned ! u8 (Is u8) (uint-makes 𝓤 H A W w8) n _ (refl, n-fits) $ fjoin ! $ owned ! i64 (Is i64) (sint-makes 𝓤 H A W w64) t _ t-is $ fjoin ! $ owned ! i64 (Is i64) (sint-makes 𝓤 H A W w64) z _ z-is $ fjoin ! $ move ! (1 ∷ 0 ∷ []) $ fjoin ! $
       owned ! u8 (Is u8) (uint-makes 𝓤 H A W w8) (r .number) _ (refl, fits) $ move ! (1 ∷ 0 ∷ []) $ done !
 
-  -- what `bad_reading`'s triple binds outside, what it asks, and what it says
-  abbrev to-test : Test 𝓤 H A at-mem run .Ghost
-  to-test = ((tt, tt, tt, (z, (t, (n, tt))), numbers), tt)
-
-  test-asks : ent 𝓤 (emp 𝓤) (Test 𝓤 H A at-mem run .pre to-test)
-  test-asks =
-      qed W [] ∵ nothing ! $ owned ! u8 (Is u8) (uint-makes 𝓤 H A W w8) n _ (refl, n-fits) $ fjoin ! $ owned ! i64 (Is i64) (sint-makes 𝓤 H A W w64) t _ t-is $ fjoin ! $ owned ! i64 (Is i64) (sint-makes 𝓤 H A W w64) z _ z-is $ fjoin ! $ nothing ! $ join ! $ frame ! $ done !
-
-  test-told : (r : Bool) → ent 𝓤 (ensured 𝓤 H A test.ended (test.clauses 𝓤 H A at-mem run) tt (z, (t, (n, tt))) tt r) (fact 𝓤 (r ≡ badReading z t n))
-  test-told r = exE 𝓤 _ (λ ws. snd∗ 𝓤 (sem 𝓤 H A (lasts test.ended tt (z, (t, (n, tt))) ws)) (fact 𝓤 (r ≡ badReading z t n)))
-
-  -- and of `take`
-  abbrev to-take : Take 𝓤 H A at-mem run .Ghost
-  to-take = ((tt, tt, tt, (h .setup .figures, (h .state, (z, (t, (n, tt))))), (mach-figures (h .setup .figures) ∷ [], (mach-state (h .state) ∷ [], numbers))), tt)
-
-  take-asks : IsDevice h → TakeInput (h .setup .figures) (h .state) z → ent 𝓤 (emp 𝓤) (Take 𝓤 H A at-mem run .pre to-take)
-  take-asks was input =
-      qed W [] ∵ says ! input $ nothing ! $ owned ! u8 (Is u8) (uint-makes 𝓤 H A W w8) n _ (refl, n-fits) $ fjoin ! $ owned ! i64 (Is i64) (sint-makes 𝓤 H A W w64) t _ t-is $ fjoin ! $ owned ! i64 (Is i64) (sint-makes 𝓤 H A W w64) z _ z-is $ fjoin ! $
-      owned ! S.the-row (Is S.the-row) (LL.makes S.the-type S′.the-plain 𝓤 H A) (h .state) _ (state-is h was) $ fjoin ! $ owned ! F.the-row (Is F.the-row) (LL.makes F.the-type F′.the-plain 𝓤 H A) (h .setup .figures) _ (figures-is h was) $ fjoin ! $ nothing ! $ done !
-
-  abbrev Took : State → Type 0
-  Took r = r ≡ taken (h .setup .figures) (h .state) z t n
-
-  take-told : (r : State) → ent 𝓤 (ensured 𝓤 H A take.ended (take.clauses 𝓤 H A at-mem run) tt (h .setup .figures, (h .state, (z, (t, (n, tt))))) tt r) (fact 𝓤 (Took r))
-  take-told r = exE 𝓤 _ (λ ws. snd∗ 𝓤 (sem 𝓤 H A (lasts take.ended tt (h .setup .figures, (h .state, (z, (t, (n, tt))))) ws)) (fact 𝓤 (Took r)))
-
   -- the record after a reading
   abbrev after : State → Device
   after r = record { setup = h .setup; state = r }
@@ -144,11 +125,8 @@ module _ {M : Type 1} (𝓤 : URA M) (H : Heap 𝓤) (A : Atoms 𝓤) (W : Given
         pass1 ! (init ! 14 refl (tt, tt)) $ pass1 ! (init ! 12 refl (sint-lawful 𝓤 H A W w64 .typed z _ z-is .0)) $ pass1 ! (init ! 10 refl (sint-lawful 𝓤 H A W w64 .typed t _ t-is .0)) $ pass1 ! (init ! 8 refl (tt, record { fits = n-fits })) $ pass0 ! $
         move ! (19 ∷ []) $ fsplit ! $ fsplit3 ! $ drop ! $ move ! (2 ∷ []) $ drop ! $ move ! (20 ∷ []) $ split ! $ move ! (2 ∷ 3 ∷ 0 ∷ []) $
         -- [obs; the borrow; its token; true; _8; …; _7; …; _6; …; _5; …; _4; …; _3; …; _2; …; _1; …; room for _0; …]
-        use0 W (raw (Test 𝓤 H A at-mem run .pre to-test)) test-asks $
-        calls-at ! fm (Test 𝓤 H A at-mem run) tests to-test (and-then ! (load ! (from ! (stop !)) (look ! 17 refl)) (and-then ! (load ! (from ! (stop !)) (look ! 15 refl)) (and-then ! (load ! (from ! (stop !)) (look ! 13 refl)) (no-more !)))) (λ v.
-        use1 W (later (some (λ (r : Bool). (‵ ftrue ⊛ ‵ (bool .own r (v ∷ []))) ⊛ raw (ensured 𝓤 H A test.ended (test.clauses 𝓤 H A at-mem run) tt (z, (t, (n, tt))) tt r)))) (id⊢ 𝓤 _) $ await ! tt $ pick ! (λ bad.
-        split ! $ move ! (1 ∷ []) $ use1 W (raw (fact 𝓤 (bad ≡ badReading z t n))) (test-told bad) $ heard ! (bad ≡ badReading z t n) (λ bad-is. split ! $ drop ! $
-        facts ! bool (Is bool) (shows 𝓤 H A bool) bad (v ∷ []) (λ is.
+        calls-plain ! fm test.ended (test.clauses 𝓤 H A at-mem run) tests (tt, tt, tt, (z, (t, (n, tt))), numbers) tt (id⊢ 𝓤 _) numbers-make numbers-are (id⊢ 𝓤 _) (λ r. r ≡ badReading z t n) (λ r e. id⊢ 𝓤 _)
+        (and-then ! (load ! (from ! (stop !)) (look ! 17 refl)) (and-then ! (load ! (from ! (stop !)) (look ! 15 refl)) (and-then ! (load ! (from ! (stop !)) (look ! 13 refl)) (no-more !)))) (λ v bad bad-is is.
         land ! (from ! (stop !)) (init ! 10 refl (bool-lawful 𝓤 H A W .typed bad _ is .0)) $ rewrite ! 10 (λ (u : Val). ‵ (fat fullShare tyBool l₅ 0 u)) (ap only is) refl $
         first ! $ branches ! (load ! (from ! (stop !)) (look ! 10 refl))
         (λ held. assigns ! (of-opd ! (lit ! tt)) (from ! (stop !)) (init ! 20 refl (tt, record { fits = lit< tt })) $
@@ -161,11 +139,9 @@ module _ {M : Type 1} (𝓤 : URA M) (H : Heap 𝓤) (A : Atoms 𝓤) (W : Given
         -- [the record's cell; the open borrow; obs; auth; true; _8; …]
         assigns ! (of-opd ! (load ! (from ! (hop ! (look ! 19 refl) (fld ! setup-at (fld ! figures-at (stop !))))) (look-in ! 0 (figures-in ! b o _ _ _)))) (from ! (stop !)) (init ! 7 refl (figures-typed 𝓤 H A W (h .setup .figures) (figures-is h was))) $
         assigns ! (of-opd ! (load ! (from ! (hop ! (look ! 19 refl) (fld ! state-at (stop !)))) (look-in ! 0 (state-in ! b o _ _ _)))) (from ! (stop !)) (init ! 5 refl (state-typed 𝓤 H A W (h .state) (state-is h was))) $
-        use0 W (raw (Take 𝓤 H A at-mem run .pre to-take)) (take-asks was (takes reached z t n (sym bad-is ∙ is-false bad good))) $
-        calls-at ! fm (Take 𝓤 H A at-mem run) takes-it to-take (and-then ! (load ! (from ! (stop !)) (look ! 8 refl)) (and-then ! (load ! (from ! (stop !)) (look ! 6 refl)) (and-then ! (load ! (from ! (stop !)) (look ! 18 refl)) (and-then ! (load ! (from ! (stop !)) (look ! 16 refl)) (and-then ! (load ! (from ! (stop !)) (look ! 14 refl)) (no-more !)))))) (λ w.
-        use1 W (later (some (λ (r : State). (‵ ftrue ⊛ ‵ (S.the-row .own r (w ∷ []))) ⊛ raw (ensured 𝓤 H A take.ended (take.clauses 𝓤 H A at-mem run) tt (h .setup .figures, (h .state, (z, (t, (n, tt))))) tt r)))) (id⊢ 𝓤 _) $ await ! tt $ pick ! (λ r.
-        split ! $ move ! (1 ∷ []) $ use1 W (raw (fact 𝓤 (Took r))) (take-told r) $ heard ! (Took r) (λ e. split ! $ drop ! $
-        facts ! S.the-row (Is S.the-row) (shows 𝓤 H A S.the-row) r (w ∷ []) (λ state.
+        calls-plain ! fm take.ended (take.clauses 𝓤 H A at-mem run) takes-it (tt, tt, tt, (h .setup .figures, (h .state, (z, (t, (n, tt))))), (mach-figures (h .setup .figures) ∷ [], (mach-state (h .state) ∷ [], numbers))) tt (id⊢ 𝓤 _)
+        (LL.makes F.the-type F′.the-plain 𝓤 H A, (LL.makes S.the-type S′.the-plain 𝓤 H A, numbers-make)) (figures-is h was, (state-is h was, numbers-are)) (factI 𝓤 _ (emp 𝓤) (takes reached z t n (sym bad-is ∙ is-false bad good))) (λ r. r ≡ taken (h .setup .figures) (h .state) z t n) (λ r e. id⊢ 𝓤 _)
+        (and-then ! (load ! (from ! (stop !)) (look ! 8 refl)) (and-then ! (load ! (from ! (stop !)) (look ! 6 refl)) (and-then ! (load ! (from ! (stop !)) (look ! 18 refl)) (and-then ! (load ! (from ! (stop !)) (look ! 16 refl)) (and-then ! (load ! (from ! (stop !)) (look ! 14 refl)) (no-more !)))))) (λ w r e state.
         land ! (from ! (stop !)) (init ! 9 refl (LL.lawful S.the-type S′.the-laws 𝓤 H A W .typed r _ state .0)) $ rewrite ! 9 (λ (u : Val). ‵ (fat fullShare S′.mir l₆ 0 u)) (ap only (state-tells r _ state)) refl $
         assigns ! (of-opd ! (load ! (from ! (stop !)) (look ! 9 refl))) (from ! (hop ! (look ! 19 refl) (fld ! state-at (stop !)))) (store-in ! 0 (state-in ! b o _ _ _) (state-typed 𝓤 H A W r (known r w state))) $
         assigns ! (of-opd ! (lit ! tt)) (from ! (stop !)) (init ! 21 refl (tt, record { fits = lit< tt })) $
@@ -173,7 +149,7 @@ module _ {M : Type 1} (𝓤 : URA M) (H : Heap 𝓤) (A : Atoms 𝓤) (W : Given
         owned ! D.the-row (Is D.the-row) (LL.makes D.the-type D′.the-plain 𝓤 H A) (after r) _ (restated h was r (known r w state)) $ move ! (1 ∷ 0 ∷ []) $ closes ! tt D.the-row (after r) (mach (after r) ∷ []) b o $
         returns ! (look ! 20 refl) $ forget ! 4 refl $ forget ! 6 refl $ forget ! 8 refl $ forget ! 10 refl $ forget ! 12 refl $ forget ! 14 refl $ forget ! 16 refl $ forget ! 18 refl $ forget ! 20 refl $
         move ! (20 ∷ 21 ∷ []) $ free1 ! $ move ! (18 ∷ 19 ∷ []) $ free1 ! $ move ! (16 ∷ 17 ∷ []) $ free1 ! $ move ! (14 ∷ 15 ∷ []) $ free1 ! $ move ! (12 ∷ 13 ∷ []) $ free1 ! $ move ! (10 ∷ 11 ∷ []) $ free1 ! $ move ! (8 ∷ 9 ∷ []) $ free1 ! $ move ! (6 ∷ 7 ∷ []) $ free1 ! $ move ! (4 ∷ 5 ∷ []) $ free1 ! $ free0 ! $
-        keep ! (0 ∷ 1 ∷ 2 ∷ []) $ by ! (exits (record { number = 0; device = after r }) (lit< tt) (joins reached z t n (sym bad-is ∙ is-false bad good) e))))))))))))))))))))))
+        keep ! (0 ∷ 1 ∷ 2 ∷ []) $ by ! (exits (record { number = 0; device = after r }) (lit< tt) (joins reached z t n (sym bad-is ∙ is-false bad good) e))))))))))))))))
 
 module _ {M : Type 1} (𝓤 : URA M) (H : Heap 𝓤) (A : Atoms 𝓤) (W : Given 𝓤 H A) (mem : Memory → SProp 𝓤) (run : Routine → Fun 𝓤) where
   walks : (C : Calls 𝓤 H) (Λ : Loops 𝓤 H) → FmC 𝓤 H (W .laws) C → Triple 𝓤 (C #state·bad-reading) (Test 𝓤 H A mem run) → Triple 𝓤 (C #state·take) (Take 𝓤 H A mem run) → Walks 𝓤 H A f.ended stayed (WpFn 𝓤 H C Λ code.function) (f.clauses 𝓤 H A mem run)
