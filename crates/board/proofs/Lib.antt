@@ -3,3 +3,4 @@ mod Kept
 mod Record
 mod Outcome
 mod Call
+mod Locals

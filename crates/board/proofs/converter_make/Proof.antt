@@ -17,7 +17,7 @@ use ghost.Atoms.{Atoms, sem}
 use contract.Monad.{Fun, fact}
 use contract.Running.{givenOf, tables, tablesOf}
 use types.Kit.{Given, Item, ‵, ⋆, raw, some, later, _⊛_, _$_, _∵_, !, qed, by, move, keep, drop, use1, use2, split, join, pick, rewrite, fsplit, fsplit3, fjoin, fjoin3, feqI, suffices, frame, await, done}
-use types.Run.{look, store-raw, init, forget, stop, hop, fld, from, load, of-opd, and-then, no-more, assigns, land, returns, enter, alloc1, alloc0, params1, pass1, pass0, free1, free0}
+use types.Run.{look, store-raw, init, stop, hop, fld, from, load, of-opd, and-then, no-more, assigns, land, returns, enter, alloc1, alloc0, params1, pass1, pass0}
 use types.Part.{look-in}
 use types.SemTy.{Body}
 use sound.WpLaws.{FmC, fmOf, WpFn-mono}
@@ -47,6 +47,7 @@ use Rattle.converter.proofs.Device as D
 use Rattle.converter.proofs.Device.Laws as D′
 use Rattle.converter.proofs.Outcome as S
 use Rattle.converter.proofs.Outcome.Laws as S′
+use Rattle.board.proofs.Locals.{frees-all, holding}
 use Rattle.board.proofs.Kept.{mach, tells, typed}
 use Rattle.board.proofs.Outcome as O
 use Rattle.converter.proofs.Device.make as g
@@ -131,8 +132,7 @@ module _ {M : Type 1} (𝓤 : URA M) (H : Heap 𝓤) (A : Atoms 𝓤) (W : Given
         assigns ! (of-opd ! (load ! (from ! (fld ! O.number-at (stop !))) (look-in ! 8 (O.number-in ! l₄ r)))) (from ! (stop !)) (init ! 16 refl (tt, record { fits = O.number-fits r v is })) $
         move ! (2 ∷ 4 ∷ 5 ∷ 6 ∷ []) $ owned ! D.the-row (Is D.the-row) (LL.makes D.the-type D′.the-plain 𝓤 H A) (r .device) _ (O.device-is r v is) $ move ! (1 ∷ 0 ∷ []) $ closes ! tt D.the-row (r .device) (mach (r .device) ∷ []) b o $
         -- [obs; the borrow; its token; what the outcome owns; the sheet's token; what the record held; the station's; _4; …]
-        returns ! (look ! 15 refl) $ forget ! 7 refl $ forget ! 9 refl $ forget ! 11 refl $ forget ! 13 refl $ forget ! 15 refl $
-        move ! (15 ∷ 16 ∷ []) $ free1 ! $ move ! (13 ∷ 14 ∷ []) $ free1 ! $ move ! (11 ∷ 12 ∷ []) $ free1 ! $ move ! (9 ∷ 10 ∷ []) $ free1 ! $ move ! (7 ∷ 8 ∷ []) $ free1 ! $ free0 ! $
+        returns ! (look ! 15 refl) $ frees-all ! 7 (holding _ _ _ ∷ holding _ _ _ ∷ holding _ _ _ ∷ holding _ _ _ ∷ holding _ _ _ ∷ []) refl $
         keep ! (0 ∷ 1 ∷ 2 ∷ 4 ∷ []) $ by ! (exits r (O.number-fits r v is) e)))))))))))
 
 module _ {M : Type 1} (𝓤 : URA M) (H : Heap 𝓤) (A : Atoms 𝓤) (W : Given 𝓤 H A) (mem : Memory → SProp 𝓤) (run : Routine → Fun 𝓤) where

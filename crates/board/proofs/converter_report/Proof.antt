@@ -15,7 +15,7 @@ use ghost.Atoms.{Atoms, sem}
 use contract.Monad.{Fun, fact}
 use contract.Running.{givenOf, tables, tablesOf}
 use types.Kit.{Given, ‵, raw, some, later, _⊛_, _$_, _∵_, !, qed, by, move, keep, drop, use1, split, join, pick, fsplit, fsplit3, fjoin, fjoin3, feqI, suffices, frame, await, done}
-use types.Run.{look, look-raw, init, forget, stop, hop, from, load, of-opd, and-then, no-more, assigns, land, returns, enter, alloc1, alloc0, params1, pass1, pass0, free1, free0}
+use types.Run.{look, look-raw, init, stop, hop, from, load, of-opd, and-then, no-more, assigns, land, returns, enter, alloc1, alloc0, params1, pass1, pass0}
 use sound.WpLaws.{FmC, fmOf, WpFn-mono}
 use denote.RattleType.{owns}
 use denote.Laws.{Is, shows}
@@ -45,6 +45,7 @@ use Rattle.converter.proofs.Device.report as g
 use Rattle.converter.proofs.Device.report.Symbol as g-def
 use Rattle.converter.proofs.Device.report.Symbol.{name as #converter·report}
 use Rattle.converter.proofs.Device.report.Met as g-thm
+use Rattle.board.proofs.Locals.{frees-all, holding}
 use Rattle.board.proofs.Kept.{mach, IsDevice, tells, typed}
 use Rattle.board.proofs.converter_report.Key.{name as #board·converter-report}
 use Rattle.board.proofs.converter_report as f
@@ -108,7 +109,7 @@ module _ {M : Type 1} (𝓤 : URA M) (H : Heap 𝓤) (A : Atoms 𝓤) (W : Given
         peeks ! S.the-row (Is S.the-row) (shows 𝓤 H A S.the-row) r (v ∷ []) (λ is.
         land ! (from ! (stop !)) (init ! 9 refl (LL.lawful S.the-type S′.the-laws 𝓤 H A W .typed r _ is .0)) $
         -- [what the report owns; the token; the borrow; res; true; _2; …; _1; …; _0; …]
-        returns ! (look ! 9 refl) $ forget ! 5 refl $ forget ! 7 refl $ forget ! 9 refl $ move ! (9 ∷ 10 ∷ []) $ free1 ! $ move ! (7 ∷ 8 ∷ []) $ free1 ! $ move ! (5 ∷ 6 ∷ []) $ free1 ! $ free0 ! $
+        returns ! (look ! 9 refl) $ frees-all ! 5 (holding _ _ _ ∷ holding _ _ _ ∷ holding _ _ _ ∷ []) refl $
         keep ! (1 ∷ 3 ∷ 2 ∷ []) $ by ! (exits r v is e))))))))))
 
 module _ {M : Type 1} (𝓤 : URA M) (H : Heap 𝓤) (A : Atoms 𝓤) (W : Given 𝓤 H A) (mem : Memory → SProp 𝓤) (run : Routine → Fun 𝓤) where
