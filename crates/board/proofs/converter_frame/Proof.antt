@@ -17,9 +17,9 @@ use prog.Memory.{Memory}
 use prog.Routine.{Routine}
 use prog.Wp.{Heap, Calls, Loops, WpFn, Tables}
 use ghost.Atoms.{Atoms}
-use contract.Monad.{Fun, fact}
+use contract.Monad.{Fun}
 use contract.Running.{givenOf, tables, tablesOf}
-use types.Kit.{Given, Item, ‵, raw, some, later, atRet, _⊛_, ⋆, _$_, _∵_, !, qed, by, move, keep, drop, use1, use3, split, join, pick, rewrite, fsplit, fsplit3, fjoin, fjoin3, feqL, feqI, suffices, frame, await, done}
+use types.Kit.{Given, Item, group, ‵, atRet, _⊛_, ⋆, _$_, _∵_, !, qed, by, move, keep, drop, use1, split, join, rewrite, fsplit, fsplit3, fjoin, fjoin3, feqL, feqI, suffices, frame, done}
 use types.Run.{look, store, init, stop, hop, fld, from, load, addr, of-opd, and-then, no-more, assigns, assigns-last, land, first, branches, skips, exec, returns, enter, alloc1, alloc0, params1, pass1, pass0}
 use types.Part.{agg, whole, sub, look-in, store-in}
 use types.SemTy.{Body}
@@ -33,13 +33,11 @@ use denote.Builtin.{u8, usize, i64}
 use denote.Ref.{RefT, MutRef, ptr-vals, mut-tells}
 use denote.Slice.{sliceVal, slice-vals, MutSlice, ShrSlice, Room, finally, mut-slice-tells, shr-slice-tells, shr-slice-copy}
 use denote.Signature.{plain, shrSliceOf}
-use denote.Steps.{only, opens, closes, owned, facts, heard, nothing}
+use denote.Steps.{only, opens, closes, owned, facts, nothing}
 use denote.Enum.Laws as EL
 use denote.Struct.Steps.{spelt}
 use denote.Struct.Laws as LL
 use denote.Triple.Statement.{Contract, Triple}
-use denote.Triple.Call.{calls-at}
-use denote.Triple.Clauses.{ensured, lasts}
 use denote.Triple.Entry.{onEntry}
 use denote.Triple.Spec.{Meets, tripleOf}
 use denote.Triple.Table.{entered, cited}
@@ -83,7 +81,7 @@ use Rattle.converter.proofs.answer as answer
 use Rattle.converter.proofs.answer.Symbol as answer-def
 use Rattle.converter.proofs.answer.Symbol.{name as #converter·answer}
 use Rattle.converter.proofs.answer.Met as answer-thm
-use Rattle.board.proofs.Call.{calls-plain, calls-lent}
+use Rattle.board.proofs.Call.{calls-out, calls-lent, calls-plain}
 use Rattle.board.proofs.Locals.{frees-all, bare, holding}
 use Rattle.board.proofs.Kept.{mach, mach-state, IsDevice, tells, state-tells, known, state-typed, number, zeroed, rezero, rezero-is, state-is, station-fits, sz-is, rezeroed}
 use Rattle.board.proofs.Record.{cell-of, apart, together, setup-at, figures-at, station-at, system-at, sz-at, state-at, station-in, sz-in, state-in}
@@ -224,14 +222,12 @@ module _ {M : Type 1} (𝓤 : URA M) (H : Heap 𝓤) (A : Atoms 𝓤) (W : Given
         assigns ! (of-opd ! (load ! (from ! (hop ! (look ! 37 refl) (fld ! setup-at (fld ! figures-at (fld ! system-at (fld ! sz-at (stop !))))))) (look-in ! 3 (sz-in ! b o (h .setup .figures) _ _ _)))) (from ! (stop !)) (init ! 21 refl (sint-lawful 𝓤 H A W w64 .typed sz _ (sz-is h was) .0)) $
         assigns ! (addr ! (from ! (fld ! refl (hop ! (look-in ! 33 (sub ! 0 refl (whole !))) (stop !))))) (from ! (stop !)) (init ! 19 refl (tt, tt)) $
         assigns ! (agg ! (and-then ! (load ! (from ! (stop !)) (look ! 19 refl)) (and-then ! (load ! (from ! (fld ! refl (stop !))) (look-in ! 33 (sub ! 1 refl (whole !)))) (no-more !)))) (from ! (stop !)) (init ! 17 refl (tt, (tt, (record { fits = room-r .0 }, tt)))) $
-        move ! (0 ∷ 2 ∷ []) $ join ! $ move ! (0 ∷ 1 ∷ 6 ∷ []) $ use3 W (raw (Answer 𝓤 H A at-mem run .pre (to-answer a va a-is))) (answer-asks a va a-is was) $
+        move ! (0 ∷ 2 ∷ []) $ join ! $ move ! (0 ∷ 1 ∷ 6 ∷ []) $ group ! 3 $
         -- [what `answer` asks; the record's cell; the open borrow; obs; auth; true; _15; …]
-        calls-at ! fm (Answer 𝓤 H A at-mem run) answers (to-answer a va a-is) (and-then ! (load ! (from ! (stop !)) (look ! 20 refl)) (and-then ! (load ! (from ! (stop !)) (look ! 18 refl)) (and-then ! (load ! (from ! (stop !)) (look ! 28 refl)) (and-then ! (load ! (from ! (stop !)) (look ! 32 refl)) (and-then ! (load ! (from ! (stop !)) (look ! 14 refl)) (no-more !)))))) (λ w.
-        use1 W (later (some (λ (r : Answered). (toks ⊛ ‵ (B.the-row .own r (w ∷ []))) ⊛ raw (ensured 𝓤 H A answer.ended (answer.clauses 𝓤 H A at-mem run) (κ₁, (κ₂, tt)) (answer-args a va a-is) tt r)))) (id⊢ 𝓤 _) $ await ! tt $ pick ! (λ r.
-        -- what `answer` ensures, at some last list
-        split ! $ move ! (1 ∷ []) $ use1 W (some (λ (zs : Unit {0} × (Unit {0} × (Unit {0} × (Unit {0} × (List ℕ × Unit {0}))))). ‵ (lasts answer.ended (κ₁, (κ₂, tt)) (answer-args a va a-is) zs) ⊛ raw (fact 𝓤 (Replied a va a-is r (zs .1 .1 .1 .1 .0))))) (id⊢ 𝓤 _) $ pick ! (λ zs.
-        split ! $ move ! (1 ∷ []) $ heard ! (Replied a va a-is r (zs .1 .1 .1 .1 .0)) (λ e. fsplit ! $ drop ! $ fsplit ! $ drop ! $ fsplit ! $ drop ! $ fsplit ! $ drop ! $ fsplit ! $ fsplit ! $ move ! (1 ∷ []) $ feqL ! (λ l.
-        move ! (2 ∷ []) $ split ! $ move ! (1 ∷ []) $ facts ! B.the-row (Is B.the-row) (shows 𝓤 H A B.the-row) r (w ∷ []) (λ r-is.
+        calls-out ! fm answer.ended (answer.clauses 𝓤 H A at-mem run) answers (to-answer a va a-is .0) tt (answer-asks a va a-is was) (λ r zs. Replied a va a-is r (zs .1 .1 .1 .1 .0)) (λ r zs. id⊢ 𝓤 _)
+        (and-then ! (load ! (from ! (stop !)) (look ! 20 refl)) (and-then ! (load ! (from ! (stop !)) (look ! 18 refl)) (and-then ! (load ! (from ! (stop !)) (look ! 28 refl)) (and-then ! (load ! (from ! (stop !)) (look ! 32 refl)) (and-then ! (load ! (from ! (stop !)) (look ! 14 refl)) (no-more !)))))) (λ w r zs e r-is.
+        -- of the last values only the reply's says anything: its list, and that it is as long as the one lent
+        fsplit ! $ drop ! $ fsplit ! $ drop ! $ fsplit ! $ drop ! $ fsplit ! $ drop ! $ fsplit ! $ fsplit ! $ move ! (1 ∷ []) $ feqL ! (λ l. move ! (2 ∷ []) $
         -- [the other tokens; the last list; true; the record's cell; the open borrow; obs; auth; true; _15; …]
         land ! (from ! (stop !)) (init ! 28 refl (LL.lawful B.the-type B′.the-laws 𝓤 H A W .typed r _ r-is .0)) $
         assigns ! (of-opd ! (load ! (from ! (hop ! (look ! 36 refl) (fld ! setup-at (fld ! figures-at (fld ! system-at (fld ! sz-at (stop !))))))) (look-in ! 3 (sz-in ! b o (h .setup .figures) _ _ _)))) (from ! (stop !)) (init ! 14 refl (sint-lawful 𝓤 H A W w64 .typed sz _ (sz-is h was) .0)) $
@@ -260,7 +256,7 @@ module _ {M : Type 1} (𝓤 : URA M) (H : Heap 𝓤) (A : Atoms 𝓤) (W : Given
         owned ! D.the-row (Is D.the-row) (LL.makes D.the-type D′.the-plain 𝓤 H A) (rezero h z (h .state)) _ (rezeroed h was z (h .state) (z-known z vz z-is) (state-is h was)) $ move ! (1 ∷ 0 ∷ []) $ closes ! tt D.the-row (rezero h z (h .state)) (mach (rezero h z (h .state)) ∷ []) b o $
         -- [obs; the borrow; its token; the other tokens; the last list; true; true; _15; …]
         returns ! (look ! 37 refl) $ frees-all ! 7 (holding _ _ _ ∷ holding _ _ _ ∷ holding _ _ _ ∷ holding _ _ _ ∷ holding _ _ _ ∷ holding _ _ _ ∷ holding _ _ _ ∷ holding _ _ _ ∷ holding _ _ _ ∷ holding _ _ _ ∷ holding _ _ _ ∷ holding _ _ _ ∷ holding _ _ _ ∷ holding _ _ _ ∷ bare _ _ ∷ bare _ _ ∷ []) refl $
-        keep ! (0 ∷ 1 ∷ 2 ∷ 3 ∷ 4 ∷ []) $ by ! (exits r w z (h .state) (zs .1 .1 .1 .1 .0) r-is (served a va a-is r (zs .1 .1 .1 .1 .0) z (h .state) asked e zeroed-is (sym (state-unchanged (h .state) a (sym changes ∙ is-false c kept)))) l)))))))))))))))))))))))))))))
+        keep ! (0 ∷ 1 ∷ 2 ∷ 3 ∷ 4 ∷ []) $ by ! (exits r w z (h .state) (zs .1 .1 .1 .1 .0) r-is (served a va a-is r (zs .1 .1 .1 .1 .0) z (h .state) asked e zeroed-is (sym (state-unchanged (h .state) a (sym changes ∙ is-false c kept)))) l)))))))))))))))))))))))))
 
 module _ {M : Type 1} (𝓤 : URA M) (H : Heap 𝓤) (A : Atoms 𝓤) (W : Given 𝓤 H A) (mem : Memory → SProp 𝓤) (run : Routine → Fun 𝓤) where
   walks : (C : Calls 𝓤 H) (Λ : Loops 𝓤 H) → FmC 𝓤 H (W .laws) C → Triple 𝓤 (C #converter·asked) (Ask 𝓤 H A mem run) → Triple 𝓤 (C #converter·answer) (Answer 𝓤 H A mem run) → Triple 𝓤 (C #state·zero-after) (Zero 𝓤 H A mem run) → Triple 𝓤 (C #state·changes-state) (Test 𝓤 H A mem run) → Triple 𝓤 (C #state·state-after) (Turn 𝓤 H A mem run) → Walks 𝓤 H A f.ended stayed (WpFn 𝓤 H C Λ code.function) (f.clauses 𝓤 H A mem run)
