@@ -206,35 +206,45 @@ round-is a d r h = ((λ e. rw e (round-nearest a d h)), only)
         let e = le-antisymm (k .nearest (roundDiv a d)) (n .nearest r) in
         ≤-antisym (n .upwards r e) (k .upwards (roundDiv a d) (sym e))
 
--- ---- by quotient and remainder towards zero, as the code goes: twice the remainder against d
+-- ---- by a quotient towards zero of a + ⌊d ÷ 2⌋, as the code goes: where its remainder is negative, the floor is one lower
+
+-- ⌊d ÷ 2⌋, twice: d, or one less
+pub half-bounds : (d : ℤ) → ((pos 2 *ℤ shrZ d 2) ≤ℤ d) × (d <ℤ (pos 2 *ℤ shrZ d 2 +ℤ pos 2))
+half-bounds d = floor-bounds d 2 (omega arith)
 
 module _ (a d : ℤ) (h : pos 0 <ℤ d) where
+  abbrev raised : ℤ
+  raised = a +ℤ shrZ d 2
+
   -- what is left of a past the quotient and k more
-  past : (k : ℤ) → (quotZ a d +ℤ k) *ℤ d -ℤ a ≡ k *ℤ d -ℤ remZ a d
-  past k = ap (λ (z : ℤ). (quotZ a d +ℤ k) *ℤ d -ℤ z) (quot-rem a d h) ∙ cancelled (quotZ a d) k d (remZ a d)
+  past : (k : ℤ) → (quotZ raised d +ℤ k) *ℤ d -ℤ a ≡ k *ℤ d -ℤ remZ raised d +ℤ shrZ d 2
+  past k =
+      ap (λ (z : ℤ). (quotZ raised d +ℤ k) *ℤ d -ℤ z) (back a (shrZ d 2) ∙ ap (λ (z : ℤ). z -ℤ shrZ d 2) (quot-rem raised d h))
+      ∙ cancelled (quotZ raised d) k d (remZ raised d) (shrZ d 2)
     where
-      cancelled : (q k d r : ℤ) → (q +ℤ k) *ℤ d -ℤ (q *ℤ d +ℤ r) ≡ k *ℤ d -ℤ r
-      cancelled q k d r = ring (q ∷ k ∷ d ∷ r ∷ []) (search polynomials depth 20 fits 9000) refl
+      back : (a x : ℤ) → a ≡ (a +ℤ x) -ℤ x
+      back a x = ring (a ∷ x ∷ []) (search polynomials depth 20 fits 9000) refl
 
-  by-rest : (k : ℤ) → negℤ d <ℤ (pos 2 *ℤ (k *ℤ d -ℤ remZ a d)) → (pos 2 *ℤ (k *ℤ d -ℤ remZ a d)) ≤ℤ d → quotZ a d +ℤ k ≡ roundDiv a d
-  by-rest k l u = round-unique a d (quotZ a d +ℤ k) h (rw (past k) l) (rw (past k) u)
+      cancelled : (q k d r x : ℤ) → (q +ℤ k) *ℤ d -ℤ (q *ℤ d +ℤ r -ℤ x) ≡ k *ℤ d -ℤ r +ℤ x
+      cancelled q k d r x = ring (q ∷ k ∷ d ∷ r ∷ x ∷ []) (search polynomials depth 20 fits 9000) refl
 
-  pub round-quotient-up : d ≤ℤ (remZ a d *ℤ pos 2) → quotZ a d +ℤ pos 1 ≡ roundDiv a d
-  round-quotient-up u =
-      let E = nat 2 ⊗ (nat 1 ⊗ ⟨ d ⟩ ⊝ ⟨ remZ a d ⟩) in
-      by-rest (pos 1) (lt! (minus ⟨ d ⟩) E (omega (ints, rem-below a d h))) (le! E ⟨ d ⟩ (omega (ints, le? ⟨ d ⟩ (⟨ remZ a d ⟩ ⊗ nat 2) u)))
+  by-rest : (k : ℤ) → let e = k *ℤ d -ℤ remZ raised d +ℤ shrZ d 2 in negℤ d <ℤ (pos 2 *ℤ e) → (pos 2 *ℤ e) ≤ℤ d → quotZ raised d +ℤ k ≡ roundDiv a d
+  by-rest k l u = round-unique a d (quotZ raised d +ℤ k) h (rw (past k) l) (rw (past k) u)
 
-  pub round-quotient-down : (remZ a d *ℤ pos 2) <ℤ (pos 0 -ℤ d) → quotZ a d -ℤ pos 1 ≡ roundDiv a d
+  pub round-quotient : pos 0 ≤ℤ remZ raised d → quotZ raised d ≡ roundDiv a d
+  round-quotient l =
+      let X = ⟨ shrZ d 2 ⟩ in
+      let E = nat 2 ⊗ (nat 0 ⊗ ⟨ d ⟩ ⊝ ⟨ remZ raised d ⟩ ⊕ X) in
+      sym (+ℤ-idr (quotZ raised d))
+      ∙ by-rest (pos 0) (lt! (minus ⟨ d ⟩) E (omega (ints, rem-below raised d h, lt? ⟨ d ⟩ (nat 2 ⊗ X ⊕ nat 2) (half-bounds d .1))))
+      (le! E ⟨ d ⟩ (omega (ints, le? (nat 2 ⊗ X) ⟨ d ⟩ (half-bounds d .0))))
+
+  pub round-quotient-down : remZ raised d <ℤ pos 0 → quotZ raised d -ℤ pos 1 ≡ roundDiv a d
   round-quotient-down l =
-      let E = nat 2 ⊗ (minus (nat 1) ⊗ ⟨ d ⟩ ⊝ ⟨ remZ a d ⟩) in
-      by-rest (negℤ (pos 1)) (lt! (minus ⟨ d ⟩) E (omega (ints, lt? (⟨ remZ a d ⟩ ⊗ nat 2) (nat 0 ⊝ ⟨ d ⟩) l)))
-      (le! E ⟨ d ⟩ (omega (ints, lt? (minus ⟨ d ⟩) ⟨ remZ a d ⟩ (rem-above a d h))))
-
-  pub round-quotient : (remZ a d *ℤ pos 2) <ℤ d → (pos 0 -ℤ d) ≤ℤ (remZ a d *ℤ pos 2) → quotZ a d ≡ roundDiv a d
-  round-quotient u l =
-      let E = nat 2 ⊗ (nat 0 ⊗ ⟨ d ⟩ ⊝ ⟨ remZ a d ⟩) in
-      sym (+ℤ-idr (quotZ a d))
-      ∙ by-rest (pos 0) (lt! (minus ⟨ d ⟩) E (omega (ints, lt? (⟨ remZ a d ⟩ ⊗ nat 2) ⟨ d ⟩ u))) (le! E ⟨ d ⟩ (omega (ints, le? (nat 0 ⊝ ⟨ d ⟩) (⟨ remZ a d ⟩ ⊗ nat 2) l)))
+      let X = ⟨ shrZ d 2 ⟩ in
+      let E = nat 2 ⊗ (minus (nat 1) ⊗ ⟨ d ⟩ ⊝ ⟨ remZ raised d ⟩ ⊕ X) in
+      by-rest (negℤ (pos 1)) (lt! (minus ⟨ d ⟩) E (omega (ints, lt? ⟨ d ⟩ (nat 2 ⊗ X ⊕ nat 2) (half-bounds d .1))))
+      (le! E ⟨ d ⟩ (omega (ints, lt? (minus ⟨ d ⟩) ⟨ remZ raised d ⟩ (rem-above raised d h), le? (nat 2 ⊗ X) ⟨ d ⟩ (half-bounds d .0))))
 
 -- ---- by a floor, for an even d, as the code goes where d is a power of two: ⌊(a + d/2) ÷ d⌋
 

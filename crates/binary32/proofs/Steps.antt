@@ -3,7 +3,7 @@
 use mathlib.Core.Path.{_≡_, refl, sym, ap, _∙_, subst}
 use mathlib.Core.Bool.{Bool, not}
 use Prim.Native.Nat.{ℕ, _+_, _-_, _*_, _/_, _%_, _^_, _≤_, _<_}
-use native.Mathlib.Nat.{le-trans, le-of-eq, lt-of-lt-of-le, mul-right-comm, mod-lt, mod-eq-of-lt, mul-le-mul-right, le-of-mul-le-mul-right, eq-of-mul-eq-mul-right}
+use native.Mathlib.Nat.{le-trans, le-of-lt, le-of-eq, lt-of-lt-of-le, mul-right-comm, mod-lt, mod-eq-of-lt, mul-le-mul-right, le-of-mul-le-mul-right, eq-of-mul-eq-mul-right}
 use native.Mathlib.Omega.{arith}
 use lib.IntN.{ℤ, pos, negℤ, _-ℤ_, _*ℤ_}
 use lib.Dec.{T, leb, leb→le, le→leb, lit≤}
@@ -18,6 +18,7 @@ use mir.Syntax.{w64}
 use mir.Val.{SFits, toZ}
 use mir.ValLaws.{toZ-pos}
 use lib.Signed.{_<ℤ_}
+use Rattle.integers.specs.Within.{_within_}
 use Rattle.integers.proofs.Difference.{nat, _⊝_, lt! }
 use Rattle.integers.proofs.Machine.{fits! }
 use Rattle.arithmetic.specs.Round.{roundDiv}
@@ -127,3 +128,6 @@ module _ (x : Float) (F : T (fits binary32 x)) (r : T (zeroFits x)) where
 
   pub turned-fit : SFits w64 (pos 0 -ℤ pos units)
   turned-fit = fits! (nat 0 ⊝ nat units) (omega (arith, units-lt))
+
+  pub units-in : (pos units) within (2 ^ 62)
+  units-in = record { abs = le-trans (le-of-lt units-lt) (pow-mono {i = 56} {j = 62} (lit≤ tt)) }

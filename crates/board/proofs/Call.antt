@@ -9,7 +9,7 @@ use ghost.Atoms.{Atoms}
 use sound.WpLaws.{FmC}
 use types.Kit.{Given, Item, mean, ‵, raw, some, later, _⊛_, _$_, Post, lands, runs, Seq, move, drop, use0, use1, split, pick, await}
 use types.Run.{Opds}
-use contract.Monad.{fact}
+use contract.Monad.{fact, factI}
 use denote.Laws.{Is, Ises, Are, Makess, owns-make, shows}
 use denote.Signature.{typeAt, typesAt}
 use denote.Steps.{facts, heard}
@@ -19,6 +19,10 @@ use denote.Triple.Call.{calls-at}
 use denote.Triple.Clauses.{Ended, Clauses, Lasts, AtExit, atExit, ensured, closing, lasts}
 use denote.Triple.Entry.{Res, alive}
 use denote.Triple.Spec.{tripleOf}
+
+-- what two clauses of a `requires` ask
+pub facts-made : {M : Type 1} (𝓤 : URA M) {φ ψ : Type 0} → φ × ψ → ent 𝓤 (emp 𝓤) (sep 𝓤 (fact 𝓤 φ) (fact 𝓤 ψ))
+facts-made 𝓤 {φ} {ψ} p = via 𝓤 (sep 𝓤 (emp 𝓤) (emp 𝓤)) (emp∗ 𝓤 (emp 𝓤)) (mono∗ 𝓤 (factI 𝓤 φ (emp 𝓤) (p .0)) (factI 𝓤 ψ (emp 𝓤) (p .1)))
 
 module _ {M : Type 1} {𝓤 : URA M} {H : Heap 𝓤} {A : Atoms 𝓤} {K : Type 0} {W : Given 𝓤 H A} {Γ : List (Item 𝓤)} {E : Env 𝓤 H} {C : Calls 𝓤 H} {Λ : Loops 𝓤 H} {q : Post 𝓤 H} {d : Place} {f : Name} {xs : List Operand} {rest : Body} where
   -- from an entry i, what was lent among it: the lifetimes' tokens come back, and what is said of the last values ws

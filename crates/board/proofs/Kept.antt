@@ -150,6 +150,10 @@ pub mach-is : (d : Device) → mach d ≡ vstruct (parts (mach-figures (d .setup
 unfolding mach mach-figures mach-state
 mach-is d = refl
 
+-- with the figures' parts in sight
+pub mach-five : (d : Device) → mach d ≡ vstruct (parts (vstruct (five (d .setup .figures))) (d .setup .station) (mach-state (d .state)))
+mach-five d = mach-is d ∙ ap (λ (f : Val). vstruct (parts f (d .setup .station) (mach-state (d .state)))) (five-are (d .setup .figures))
+
 -- with another SZ and another state
 abbrev pub rezero : Device → ℤ → State → Device
 rezero d z s = record { setup = record { figures = withZero (d .setup .figures) z; station = d .setup .station }; state = s }

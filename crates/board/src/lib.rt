@@ -28,7 +28,22 @@ pub extern "C" fn converter_reading(device: &mut Device, elec: i64, temp: i64, i
     if state::bad_reading(elec, temp, integrity) {
         return 9;
     }
-    device.state = state::take(device.setup.figures, device.state, elec, temp, integrity);
+    let input = state::input_of(
+        device.setup.figures.filter,
+        device.setup.figures.temperature,
+        device.state.readings,
+        elec,
+        temp,
+    );
+    device.state = state::take(
+        device.setup.figures.cell,
+        device.setup.figures.linearity,
+        device.setup.figures.system,
+        device.state,
+        input,
+        temp,
+        integrity,
+    );
     0
 }
 
@@ -38,17 +53,18 @@ pub extern "C" fn converter_frame(device: &mut Device, frame: &[u8], reply: &mut
     requires { ⌜ Reached (now device) ⌝ }
     ensures { λ r. ⌜ Serving (now (device .entry)) (now (frame .entry)) (now (reply .entry)) (now (reply .exit)) (record { number = r .number; length = r .length; device = now (device .exit) }) ⌝ }
 {
-    let request = converter::asked(frame, reply.len(), device.setup.station);
+    let asked = modbus::frame::judge(frame, reply.len(), device.setup.station);
     let answered = converter::answer(
         device.state,
         device.setup.figures.system.sz,
-        request,
+        asked,
         frame,
         reply,
     );
-    device.setup.figures.system.sz = state::zero_after(device.setup.figures.system.sz, request);
-    if state::changes_state(request) {
-        device.state = state::state_after(device.state, request);
+    if state::changes_state(asked) {
+        device.state = state::state_after(device.state, asked);
+    } else if state::changes_zero(asked) {
+        device.setup.figures.system.sz = state::zero_after(device.setup.figures.system.sz, asked);
     }
     answered
 }

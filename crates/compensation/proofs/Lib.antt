@@ -5,5 +5,6 @@ pub mod Held
 pub mod Magnitudes
 pub mod FilterHull
 pub mod FilterCases
+pub mod StatBits
 pub mod Flags
 pub mod Faithful

@@ -6,8 +6,11 @@ use Prim.Native.Nat.{ℕ, _/_, _%_, _^_}
 use lib.Bits.{bitOr}
 use lib.Dec.{eqb}
 use lib.IntN.{ℤ, pos, negℤ}
-use lib.Signed.{ltZ}
+use lib.Signed.{ltZ, _≤ℤ_}
 use Rattle.figures.specs.declared.Calibration.{Calibration}
+use Rattle.figures.specs.declared.Cell.{Cell}
+use Rattle.figures.specs.declared.System.{System}
+use Rattle.compensation.specs.Hold.{hold}
 use Rattle.compensation.specs.Reading.{rawCell, rawSystem}
 
 -- ---- flags are bits of a number
@@ -73,14 +76,24 @@ elecOver = pos 7864320
 abbrev pub range : ℤ → ℤ → ℤ → ℕ → ℕ → ℕ
 range lo hi x under over = bitOr (weigh (ltZ x lo) under) (weigh (ltZ hi x) over)
 
-unfoldable pub statOf : Calibration → ℤ → ℤ → ℤ → ℤ → ℕ → ℕ
-statOf c elec temp cell system integrity =
+unfoldable pub statOf : Cell → System → ℤ → ℤ → ℤ → ℤ → ℕ → ℕ
+statOf c s elec temp cell system integrity =
     bitOr (range tempUnder tempOver temp 4 8)
     (bitOr (range elecUnder elecOver elec 16 32)
-    (bitOr (range (c .cell .cmin) (c .cell .cmax) cell 64 128)
-    (bitOr (range (c .system .smin) (c .system .smax) system 256 512)
+    (bitOr (range (c .cmin) (c .cmax) cell 64 128)
+    (bitOr (range (s .smin) (s .smax) system 256 512)
     (weigh (eqb integrity 1) 2048))))
 
 -- of a reading: ELEC as the filter holds it, TEMP, the raw cell and raw system values, and the integrity byte
 abbrev pub stat : Calibration → ℤ → ℤ → ℕ → ℕ
-stat c elec temp integrity = statOf c elec temp (rawCell c elec temp) (rawSystem c elec temp) integrity
+stat c elec temp integrity = statOf (c .cell) (c .system) elec temp (rawCell c elec temp) (rawSystem c elec temp) integrity
+
+-- ---- as the code finds them
+
+-- the bits of ELEC, TEMP and the integrity byte
+unfoldable pub inputBits : ℤ → ℤ → ℕ → ℕ
+inputBits elec temp integrity = bitOr (range tempUnder tempOver temp 4 8) (bitOr (range elecUnder elecOver elec 16 32) (weigh (eqb integrity 1) 2048))
+
+-- n are the bits of a raw value x that was held at h, by whichever limits
+abbrev pub HeldBits : ℤ → ℤ → ℕ → ℕ → ℕ → Type 0
+HeldBits x h under over n = (lo hi : ℤ) → lo ≤ℤ hi → h ≡ hold lo hi x → n ≡ range lo hi x under over

@@ -3,30 +3,39 @@ use Prim.Native.Nat.{ℕ}
 use lib.IntN.{ℤ}
 use Rattle.integers.specs.Within.{_within_}
 use Rattle.figures.specs.Limits.{ctoMost, ctgMost, cellMost, systemMost}
-use Rattle.figures.specs.Acceptable.{Acceptable, CellAcceptable, LinearityAcceptable, SystemAcceptable}
+use Rattle.figures.specs.Acceptable.{CellAcceptable, LinearityAcceptable, SystemAcceptable}
 use Rattle.figures.specs.declared.Cell.{Cell}
 use Rattle.figures.specs.declared.Linearity.{Linearity}
 use Rattle.figures.specs.declared.System.{System}
 use Rattle.figures.specs.declared.Calibration.{Calibration}
 use Rattle.compensation.specs.Filter.{elecMost}
-use Rattle.compensation.specs.Reading.{craw, cell, sraw, sys}
-use Rattle.compensation.specs.Stat.{stat}
+use Rattle.compensation.specs.Reading.{inputAt, rawCellAt, crawAt, cellAt, rawSystemAt, srawAt, sysAt}
+use Rattle.compensation.specs.Stat.{statOf}
+use Rattle.compensation.specs.declared.steps.Input.{Input}
 use Rattle.compensation.specs.declared.steps.Values.{Values}
 
--- CRAW, CELL, SRAW, SYS and STAT of a reading
-unfoldable pub valuesOf : Calibration → ℤ → ℤ → ℕ → Values
-valuesOf c elec temp integrity = record {
-  craw = craw c elec temp;
-  cell = cell c elec temp;
-  sraw = sraw c elec temp;
-  sys = sys c elec temp;
-  stat = stat c elec temp integrity;
+-- CRAW, CELL, SRAW, SYS and STAT of a reading, by the parts of the figures that steps 3 to 5 need
+unfoldable pub valuesAt : Cell → Linearity → System → Input → ℤ → ℕ → Values
+valuesAt c l s i temp integrity = record {
+  craw = crawAt c i;
+  cell = cellAt c l i;
+  sraw = srawAt c l s i;
+  sys = sysAt c l s i;
+  stat = statOf c s (i .elec) temp (rawCellAt c i) (rawSystemAt c l s i) integrity;
 }
 
--- a reading: acceptable figures, and ELEC as the filter holds it; any TEMP
-pub record ReadingInput (c : Calibration) (elec : ℤ) : Type 0 where
-  pub acceptable : Acceptable c
-  pub elec-in : elec within elecMost
+-- by the figures, from ELEC as the filter holds it, TEMP and the integrity byte
+abbrev pub valuesOf : Calibration → ℤ → ℤ → ℕ → Values
+valuesOf c elec temp integrity = valuesAt (c .cell) (c .linearity) (c .system) (inputAt (c .temperature) elec temp) temp integrity
+
+-- steps 3 to 5: acceptable figures, ELEC as the filter holds it, and o and g between the values of an acceptable table
+pub record StepsInput (c : Cell) (l : Linearity) (s : System) (i : Input) : Type 0 where
+  pub cell-ok : CellAcceptable c
+  pub linearity-ok : LinearityAcceptable l
+  pub system-ok : SystemAcceptable s
+  pub elec-in : i .elec within elecMost
+  pub o-in : i .o within ctoMost
+  pub g-in : i .g within ctgMost
 
 pub record GainInput (c : Cell) (o elec : ℤ) : Type 0 where
   pub acceptable : CellAcceptable c

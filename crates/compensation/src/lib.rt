@@ -5,6 +5,7 @@ mod stat;
 mod steps;
 mod tables;
 
-pub use filter::filter_input;
+pub use steps::Input;
 pub use steps::Values;
 pub use steps::compensate;
+pub use steps::input_of;

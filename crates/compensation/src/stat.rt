@@ -1,9 +1,8 @@
 // The STAT bits (01, "The reading").
 ghost use mathlib.Core.Path.{_≡_};
-ghost use Rattle.compensation.specs.Stat.{weigh, range, statOf};
-use figures::Calibration;
-use figures::Cell;
-use figures::System;
+ghost use mathlib.Core.Bool.{_&&_};
+ghost use lib.Signed.{leZ};
+ghost use Rattle.compensation.specs.Stat.{weigh, range, inputBits, HeldBits};
 
 pub const TEMPUR: u16 = 4;
 
@@ -36,25 +35,39 @@ fn range_bits(lo: i64, hi: i64, x: i64, under: u16, over: u16) -> u16
     weight_if(x < lo, under) | weight_if(hi < x, over)
 }
 
-fn cell_bits(c: Cell, raw: i64) -> u16
-    ensures { λ r. ⌜ r ≡ range (c .cmin) (c .cmax) raw 64 128 ⌝ }
+fn is_within(lo: i64, hi: i64, x: i64) -> bool
+    ensures { λ r. ⌜ r ≡ (leZ lo x && leZ x hi) ⌝ }
 {
-    range_bits(c.cmin, c.cmax, raw, CRAWUR, CRAWOR)
+    if x < lo {
+        return false;
+    }
+    x <= hi
 }
 
-fn system_bits(s: System, raw: i64) -> u16
-    ensures { λ r. ⌜ r ≡ range (s .smin) (s .smax) raw 256 512 ⌝ }
+// The bits of ELEC, TEMP and the integrity byte. Nearly every reading has none of them, and leaves after three tests.
+pub fn input_bits(elec: i64, temp: i64, integrity: u8) -> u16
+    ensures { λ r. ⌜ r ≡ inputBits elec temp integrity ⌝ }
 {
-    range_bits(s.smin, s.smax, raw, SYSUR, SYSOR)
-}
-
-// `cell` and `system` are the raw values, before they are held and before SZ is taken off.
-pub fn stat_bits(c: Calibration, elec: i64, temp: i64, cell: i64, system: i64, integrity: u8) -> u16
-    ensures { λ r. ⌜ r ≡ statOf c elec temp cell system integrity ⌝ }
-{
+    if is_within(-3_276_800, 5_898_240, temp)
+        && is_within(-7_864_320, 7_864_320, elec)
+        && integrity == 0
+    {
+        return 0;
+    }
     let of_temp = range_bits(-3_276_800, 5_898_240, temp, TEMPUR, TEMPOR);
     let of_elec = range_bits(-7_864_320, 7_864_320, elec, ECOMUR, ECOMOR);
-    let of_cell = cell_bits(c.cell, cell);
-    let of_system = system_bits(c.system, system);
-    of_temp | (of_elec | (of_cell | (of_system | weight_if(integrity == 1, LCINTEG))))
+    of_temp | (of_elec | weight_if(integrity == 1, LCINTEG))
+}
+
+// The bits of a raw value, from what it was held at: it was moved exactly where it is beyond a limit, upwards where it is below.
+pub fn held_bits(raw: i64, held: i64, under: u16, over: u16) -> u16
+    ensures { λ r. ⌜ HeldBits raw held under over r ⌝ }
+{
+    if raw == held {
+        return 0;
+    }
+    if raw < held {
+        return under;
+    }
+    over
 }

@@ -1,19 +1,35 @@
-// Steps 2 to 5 (01, "The reading").
+// Steps 3 to 5 (01, "The reading"), and what steps 1 and 2 hand to them.
 ghost use mathlib.Core.Path.{_≡_};
 ghost use lib.IntN.{_+ℤ_, _-ℤ_, _*ℤ_};
 ghost use Rattle.integers.specs.Within.{_within_};
 ghost use Rattle.arithmetic.specs.Table.{interpolated};
-ghost use Rattle.figures.specs.Acceptable.{linearities};
+ghost use Rattle.figures.specs.Acceptable.{linearities, TemperatureAcceptable};
+ghost use Rattle.compensation.specs.Filter.{FilterInput};
 ghost use Rattle.compensation.specs.Hold.{hold};
-ghost use Rattle.compensation.specs.Reading.{one, scaled};
-ghost use Rattle.compensation.specs.Values.{valuesOf, ReadingInput, GainInput, AdjustInput, CorrectInput, SystemInput, NetInput};
-use crate::stat::stat_bits;
+ghost use Rattle.compensation.specs.Reading.{one, scaled, inputOf};
+ghost use Rattle.compensation.specs.Values.{valuesAt, StepsInput, GainInput, AdjustInput, CorrectInput, SystemInput, NetInput};
+use crate::filter::filter_input;
+use crate::stat::CRAWOR;
+use crate::stat::CRAWUR;
+use crate::stat::SYSOR;
+use crate::stat::SYSUR;
+use crate::stat::held_bits;
+use crate::stat::input_bits;
 use crate::tables::adjustments;
 use crate::tables::correction;
 use figures::Calibration;
 use figures::Cell;
+use figures::Filter;
 use figures::Linearity;
 use figures::System;
+use figures::Temperature;
+
+// What steps 1 and 2 give: ELEC as the filter holds it, and o and g at TEMP.
+pub struct Input {
+    pub elec: i64,
+    pub o: i64,
+    pub g: i64,
+}
 
 // What a reading leaves.
 #[repr(C)]
@@ -25,23 +41,55 @@ pub struct Values {
     pub stat: u16,
 }
 
-// CRAW, CELL, SRAW, SYS and STAT, from the figures, ELEC as the filter holds it, TEMP and the integrity byte.
-pub fn compensate(c: Calibration, elec: i64, temp: i64, integrity: u8) -> Values
-    requires { ⌜ ReadingInput c elec ⌝ }
-    ensures { λ r. ⌜ r ≡ valuesOf c elec temp integrity ⌝ }
+// Steps 1 and 2, from the value that the filter holds, or none yet at the first reading, and ELEC and TEMP as they come.
+pub fn input_of(
+    filter: Filter,
+    temperature: Temperature,
+    first: bool,
+    held: i64,
+    elec: i64,
+    temp: i64,
+) -> Input
+    requires { ⌜ FilterInput filter held elec ⌝ }
+    requires { ⌜ TemperatureAcceptable temperature ⌝ }
+    ensures { λ r. ⌜ r ≡ inputOf filter temperature first held elec temp ⌝ }
 {
-    let adjustment = adjustments(c.temperature, temp);
-    let y = gained(c.cell, adjustment.first, elec);
-    let raw_cell = adjusted(y, adjustment.second);
-    let craw = hold_cell(c.cell, raw_cell);
-    let cell = corrected(c.linearity, craw);
-    let raw_system = scaled_system(c.system, cell);
-    let sraw = hold_system(c.system, raw_system);
-    let sys = net(c.system, sraw);
-    let stat = stat_bits(c, elec, temp, raw_cell, raw_system, integrity);
+    let elec = filter_input(filter, first, held, elec);
+    let adjustment = adjustments(temperature, temp);
+    Input {
+        elec,
+        o: adjustment.first,
+        g: adjustment.second,
+    }
+}
+
+// CRAW, CELL, SRAW, SYS and STAT. Only the figures that these steps need are handed over, so that a caller who keeps the figures
+// in a record copies no others.
+pub fn compensate(
+    cell: Cell,
+    linearity: Linearity,
+    system: System,
+    input: Input,
+    temp: i64,
+    integrity: u8,
+) -> Values
+    requires { ⌜ StepsInput cell linearity system input ⌝ }
+    ensures { λ r. ⌜ r ≡ valuesAt cell linearity system input temp integrity ⌝ }
+{
+    let y = gained(cell, input.o, input.elec);
+    let raw_cell = adjusted(y, input.g);
+    let craw = hold_cell(cell, raw_cell);
+    let corrected_cell = corrected(linearity, craw);
+    let raw_system = scaled_system(system, corrected_cell);
+    let sraw = hold_system(system, raw_system);
+    let sys = net(system, sraw);
+    let of_input = input_bits(input.elec, temp, integrity);
+    let of_cell = held_bits(raw_cell, craw, CRAWUR, CRAWOR);
+    let of_system = held_bits(raw_system, sraw, SYSUR, SYSOR);
+    let stat = of_input | (of_cell | of_system);
     Values {
         craw,
-        cell,
+        cell: corrected_cell,
         sraw,
         sys,
         stat,

@@ -20,18 +20,17 @@ use Rattle.modbus.specs.Frame.{stationOf, functionOf, forUs, toUs, checked, jud
 use Rattle.modbus.specs.Reply.{silent, answer, valueReply, writeReply, exceptionCode, exceptionReply}
 use Rattle.modbus.proofs.Replies.{length-framed, value-fits, write-fits, exception-fits}
 use Rattle.modbus.specs.declared.frame.Frame.{Frame}
-use Rattle.modbus.specs.declared.frame.Frame.the-variants.{Write, Read, Act}
+use Rattle.modbus.specs.declared.frame.Frame.the-variants as asks
+use Rattle.modbus.specs.declared.frame.Frame.the-variants.{Read, Write, Act}
 use Rattle.state.specs.Reading.{badReading, taken}
-use Rattle.state.specs.Request.{requested, zeroBy, stateBy, fresh, snapped, peaksAt, peaksReset}
+use Rattle.state.specs.Request.{zeroBy, acted, written, stateBy, fresh, snapped, peaksAt, peaksReset}
 use Rattle.state.specs.Register.{stepsAt, readingFloat, readingAt, registerAt, onReading, answered, numberOf}
 use Rattle.state.specs.Report.{reported}
 use Rattle.state.specs.declared.State.{State}
-use Rattle.state.specs.declared.requests.Request.{Request}
-use Rattle.state.specs.declared.requests.Request.the-variants.{Refuse, Show, Flag, Zero, Rst, Snap, PeakReset}
 use Rattle.state.specs.declared.registers.Answer.{Answer}
 use Rattle.state.specs.declared.registers.Answer.the-variants.{Value, Done, Refused}
 use Rattle.converter.specs.Making.{started}
-use Rattle.converter.specs.Call.{Call, reading, frame, report, asked, obeyed, read, step, answerTo, number, replyWith, reply}
+use Rattle.converter.specs.Call.{Call, reading, frame, report, obeyed, read, step, answerTo, number, replyWith, reply}
 use Rattle.converter.specs.Reached.{Serving}
 use Rattle.converter.specs.History.{Shows}
 use Rattle.converter.specs.declared.Device.{Device}
@@ -43,19 +42,23 @@ unless-any : (d : Device) (any : Bool) (t : State) → (numberOf (cond any Done 
 unless-any d true t h = absurd (h refl)
 unless-any d false t h = refl
 
-obeyed-unchanged : (d : Device) (sz : ℤ) (q : Request) → (numberOf (answered (d .state) sz q) ≡ 0 → ⊥) → obeyed d q ≡ d
-unfolding zeroBy stateBy answered onReading snapped peaksReset
-obeyed-unchanged d sz (Refuse n) h = refl
-obeyed-unchanged d sz (Show n) h = refl
-obeyed-unchanged d sz (Flag m) h = absurd (h refl)
-obeyed-unchanged d sz (Zero z) h = absurd (h refl)
-obeyed-unchanged d sz Rst h = absurd (h refl)
-obeyed-unchanged d sz Snap h =
+acted-unchanged : (d : Device) (rst snap : Bool) → (numberOf (cond rst Done (onReading (d .state))) ≡ 0 → ⊥)
+    → record { setup = d .setup; state = cond rst fresh (cond snap (snapped (d .state)) (peaksReset (d .state))) } ≡ d
+unfolding onReading snapped peaksReset
+acted-unchanged d true snap h = absurd (h refl)
+acted-unchanged d false true h =
     let s = d .state in
     unless-any d (s .readings .any) (record { readings = s .readings; flag = s .flag; snapshot = record { taken = true; sysn = s .readings .values .sys } }) h
-obeyed-unchanged d sz PeakReset h =
+acted-unchanged d false false h =
     let s = d .state in
     unless-any d (s .readings .any) (record { readings = peaksAt (s .readings); flag = s .flag; snapshot = s .snapshot }) h
+
+obeyed-unchanged : (d : Device) (sz : ℤ) (f : Frame) → (numberOf (answered (d .state) sz f) ≡ 0 → ⊥) → obeyed d f ≡ d
+unfolding zeroBy stateBy acted answered
+obeyed-unchanged d sz (asks.Refused n) h = refl
+obeyed-unchanged d sz (Read n) h = refl
+obeyed-unchanged d sz (Write r x) h = absurd (h refl)
+obeyed-unchanged d sz (Act r) h = acted-unchanged d (eqb r 100) (eqb r 103) h
 
 pub refused-unchanged : (d : Device) (c : Call) → (number d c ≡ 0 → ⊥) → step d c ≡ d
 unfolding answerTo
@@ -64,7 +67,7 @@ refused-unchanged d (reading elec temp integrity) h = go (badReading elec temp i
     go : (b : Bool) → (_≡_ {A = ℕ} (cond b 9 0) 0 → ⊥) → cond b d (read d elec temp integrity) ≡ d
     go true k = refl
     go false k = absurd (k refl)
-refused-unchanged d (frame bytes room) h = obeyed-unchanged d (d .setup .figures .system .sz) (asked (d .setup) bytes room) h
+refused-unchanged d (frame bytes room) h = obeyed-unchanged d (d .setup .figures .system .sz) (judged bytes room (d .setup .station)) h
 refused-unchanged d report h = refl
 
 -- ---- the length replied is within the lent buffer
@@ -133,11 +136,11 @@ exceptionBytes s n = stationOf s ∷ bitOr (functionOf s) 128 ∷ exceptionCode 
 
 module _ (d : Device) (s : List ℕ) (room : ℕ) where
   no-room : ltb room 9 ≡ true → number d (frame s room) ≡ 12
-  unfolding answerTo answered requested judged
+  unfolding answerTo answered judged
   no-room e = rw e
 
   not-for-us : ltb room 9 ≡ false → forUs s (d .setup .station) ≡ false → number d (frame s room) ≡ 13
-  unfolding answerTo answered requested judged
+  unfolding answerTo answered judged
   not-for-us e f = rw (e, f)
 
   module _ (code : exceptionCode (number d (frame s room)) (functionOf s) ≡ 0 → ⊥) (ours : stationOf s ≡ 0 → ⊥) where
@@ -192,22 +195,22 @@ exception {d} {s} {before} {after} {r} h code ours =
 -- a frame that reads register n is accepted where the register shows x, and x is sent
 pub read-replies : (d : Device) (s : List ℕ) (room n : ℕ) (x : Float) → judged s room (d .setup .station) ≡ Read n → Shows d n x
     → (number d (frame s room) ≡ 0) × (reply d s room ≡ valueReply s room x)
-unfolding answerTo answered requested
+unfolding answerTo answered
 read-replies d s room n x e shows = (ap numberOf same, ap (replyWith s room) same)
   where
     same : answerTo d s room ≡ Value x
-    same = ap (λ (f : Frame). answered (d .state) (d .setup .figures .system .sz) (requested f)) e ∙ shows
+    same = ap (λ (f : Frame). answered (d .state) (d .setup .figures .system .sz) f) e ∙ shows
 
 module _ (d : Device) (s : List ℕ) (room : ℕ) where
   abbrev pub after : Device
   after = step d (frame s room)
 
-  obeys : (f : Frame) → judged s room (d .setup .station) ≡ f → after ≡ obeyed d (requested f)
-  obeys f e = ap (λ (g : Frame). obeyed d (requested g)) e
+  obeys : (f : Frame) → judged s room (d .setup .station) ≡ f → after ≡ obeyed d f
+  obeys f e = ap (λ (g : Frame). obeyed d g) e
 
   -- "SNAP copies SYS to SYSN"
   pub snap-shown : judged s room (d .setup .station) ≡ Act 103 → d .state .readings .any ≡ true → Shows after 23 (stepFloat (d .state .readings .values .sys))
-  unfolding requested zeroBy stateBy snapped registerAt
+  unfolding zeroBy acted stateBy snapped registerAt
   snap-shown e any =
       let t = d .state in
       let taken : State = record { readings = t .readings; flag = t .flag; snapshot = record { taken = true; sysn = t .readings .values .sys } } in
@@ -215,17 +218,17 @@ module _ (d : Device) (s : List ℕ) (room : ℕ) where
 
   -- a written SZ
   pub zero-shown : (x : Float) → judged s room (d .setup .station) ≡ Write 22 x → Shows after 22 (stepFloat (zeroSteps x)) × (after .state ≡ d .state)
-  unfolding requested zeroBy stateBy registerAt
+  unfolding zeroBy stateBy written registerAt
   zero-shown x e = (subst (λ (g : Device). Shows g 22 (stepFloat (zeroSteps x))) (sym (obeys (Write 22 x) e)) refl, ap (λ (g : Device). g .state) (obeys (Write 22 x) e))
 
   -- "a FLAG write clears the bits it lacks"
   pub flag-shown : (x : Float) → judged s room (d .setup .station) ≡ Write 14 x → Shows after 14 (wholeFloat (bitAnd (d .state .flag) (flagWhole x)))
-  unfolding requested zeroBy stateBy registerAt
+  unfolding zeroBy stateBy written registerAt
   flag-shown x e = subst (λ (g : Device). Shows g 14 (wholeFloat (bitAnd (d .state .flag) (flagWhole x)))) (sym (obeys (Write 14 x) e)) refl
 
   -- "RST forgets readings, snapshot and filter", keeps SZ and leaves FLAG 32768: the device is one just started
   pub rst-starts : judged s room (d .setup .station) ≡ Act 100 → after ≡ started (d .setup)
-  unfolding requested zeroBy stateBy
+  unfolding zeroBy acted stateBy
   rst-starts e = obeys (Act 100) e
 
   -- so the next reads show REBOOT, the SZ that was in force and no snapshot, and a report is refused
@@ -241,7 +244,7 @@ module _ (d : Device) (s : List ℕ) (room : ℕ) where
   -- "a peak reset, which sets both to the present SYS"
   pub peaks-shown : judged s room (d .setup .station) ≡ Act 104 → d .state .readings .any ≡ true
       → Shows after 24 (stepFloat (d .state .readings .values .sys)) × Shows after 25 (stepFloat (d .state .readings .values .sys))
-  unfolding requested zeroBy stateBy peaksReset registerAt readingAt readingFloat stepsAt
+  unfolding zeroBy acted stateBy peaksReset registerAt readingAt readingFloat stepsAt
   peaks-shown e any =
       let t = d .state in
       let reset : State = record { readings = peaksAt (t .readings); flag = t .flag; snapshot = t .snapshot } in

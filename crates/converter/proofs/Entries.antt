@@ -5,18 +5,24 @@ use mathlib.Core.List.{List}
 use Prim.Native.Nat.{ℕ}
 use lib.IntN.{ℤ}
 use lib.ListN.{length}
-use Rattle.state.specs.Reading.{badReading, taken, TakeInput}
+use Rattle.figures.specs.Acceptable.{TemperatureAcceptable}
+use Rattle.compensation.specs.Filter.{FilterInput}
+use Rattle.compensation.specs.Values.{StepsInput}
+use Rattle.compensation.specs.declared.steps.Input.{Input}
+use Rattle.compensation.proofs.Magnitudes.{steps-input}
+use Rattle.modbus.specs.Frame.{judged}
+use Rattle.modbus.specs.declared.frame.Frame.{Frame}
+use Rattle.state.specs.Reading.{badReading, heldAfter, inputAfter, taken, takenAt}
 use Rattle.state.specs.Request.{setupBy, stateBy}
 use Rattle.state.specs.Register.{answered, numberOf}
 use Rattle.state.specs.declared.Setup.{Setup}
 use Rattle.state.specs.declared.State.{State}
-use Rattle.state.specs.declared.requests.Request.{Request}
 use Rattle.converter.specs.Call as call
-use Rattle.converter.specs.Call.{asked, step, number, answerTo}
+use Rattle.converter.specs.Call.{step, number, answerTo}
 use Rattle.converter.specs.Reached.{Reached, Answering, Reading, Serving}
 use Rattle.converter.specs.declared.Device.{Device}
 use Rattle.converter.specs.declared.Outcome.{Outcome}
-use Rattle.converter.proofs.Sound.{good-elec}
+use Rattle.converter.proofs.Sound.{good-elec, held-within}
 use Rattle.converter.proofs.Reached.{reached-step, reached-sound}
 
 -- ---- a reading
@@ -28,26 +34,37 @@ module _ {d : Device} (h : Reached d) (elec temp : ℤ) (integrity : ℕ) where
   pub refuses : badReading elec temp integrity ≡ true → Reading d elec temp integrity (record { number = 9; device = d })
   refuses b = gives (rw b refl)
 
-  -- what `take` asks
-  pub takes : badReading elec temp integrity ≡ false → TakeInput (d .setup .figures) (d .state) elec
-  takes b =
+  -- what `input_of` asks
+  pub filters : badReading elec temp integrity ≡ false → FilterInput (d .setup .figures .filter) (d .state .readings .elec) elec × TemperatureAcceptable (d .setup .figures .temperature)
+  filters b =
       let s = reached-sound h in
-      record { acceptable = s .acceptable; held-in = s .state-ok .readings-ok .held-in; elec-in = good-elec elec temp integrity b }
+      (record { acceptable = s .acceptable .filter-ok; held-in = s .state-ok .readings-ok .held-in; input-in = good-elec elec temp integrity b }, s .acceptable .temperature-ok)
 
-  pub joins : {s : State} → badReading elec temp integrity ≡ false → s ≡ taken (d .setup .figures) (d .state) elec temp integrity
+  -- what `take` asks, of the input that it gave
+  pub takes : {i : Input} → badReading elec temp integrity ≡ false → i ≡ inputAfter (d .setup .figures .filter) (d .setup .figures .temperature) (d .state .readings) elec temp
+      → StepsInput (d .setup .figures .cell) (d .setup .figures .linearity) (d .setup .figures .system) i
+  takes b e =
+      let s = reached-sound h in
+      rw e (steps-input (d .setup .figures) (heldAfter (d .setup .figures) (d .state .readings) elec) temp (s .acceptable)
+      (held-within (d .setup .figures) (d .state .readings) elec (s .acceptable) (s .state-ok .readings-ok .held-in) (good-elec elec temp integrity b)))
+
+  -- and what the state that it gave makes of the device
+  pub joins : {i : Input} {s : State} → badReading elec temp integrity ≡ false → i ≡ inputAfter (d .setup .figures .filter) (d .setup .figures .temperature) (d .state .readings) elec temp
+      → s ≡ takenAt (d .setup .figures .cell) (d .setup .figures .linearity) (d .setup .figures .system) (d .state) i temp integrity
       → Reading d elec temp integrity (record { number = 0; device = record { setup = d .setup; state = s } })
-  joins b e = gives (rw (b, e) refl)
+  unfolding taken
+  joins b e f = gives (rw (b, f, e) refl)
 
 -- ---- a frame
 
-pub serves : {d : Device} → Reached d → (bytes before after : List ℕ) {q : Request} {n m : ℕ} {s : Setup} {t : State}
-    → q ≡ asked (d .setup) bytes (length before) → Answering (answered (d .state) (d .setup .figures .system .sz) q) bytes before after (record { number = n; length = m })
-    → s ≡ setupBy (d .setup) q → t ≡ stateBy (d .state) q → Serving d bytes before after (record { number = n; length = m; device = record { setup = s; state = t } })
+pub serves : {d : Device} → Reached d → (bytes before after : List ℕ) {f : Frame} {n m : ℕ} {s : Setup} {t : State}
+    → f ≡ judged bytes (length before) (d .setup .station) → Answering (answered (d .state) (d .setup .figures .system .sz) f) bytes before after (record { number = n; length = m })
+    → s ≡ setupBy (d .setup) f → t ≡ stateBy (d .state) f → Serving d bytes before after (record { number = n; length = m; device = record { setup = s; state = t } })
 unfolding answerTo
 serves {d} h bytes before after {s} {t} what answers setup-is state-is =
     let after-it : record { setup = s; state = t } ≡ step d (call.frame bytes (length before)) = rw (setup-is, state-is, what) in
     record {
-      number-is = answers .number-is ∙ ap (λ (p : Request). numberOf (answered (d .state) (d .setup .figures .system .sz) p)) what;
+      number-is = answers .number-is ∙ ap (λ (g : Frame). numberOf (answered (d .state) (d .setup .figures .system .sz) g)) what;
       device-is = after-it;
       replied = rw what at answers .replied;
       reached = subst Reached (sym after-it) (reached-step h (call.frame bytes (length before)));

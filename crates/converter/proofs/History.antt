@@ -5,7 +5,9 @@ use mathlib.Core.Bool.{Bool, true, false, cond, not}
 use mathlib.Core.List.{List, [], _∷_}
 use mathlib.Core.Option.{Option, none, some}
 use Prim.Native.Nat.{ℕ}
-use lib.Bits.{bitOr}
+use lib.Bits.{bitOr, bitAnd}
+use lib.Dec.{eqb}
+use lib.Ieee.{Float}
 use lib.IntN.{ℤ}
 use Rattle.integers.specs.Within.{_within_}
 use Rattle.figures.specs.Acceptable.{Acceptable}
@@ -14,16 +16,18 @@ use Rattle.compensation.specs.Filter.{elecMost, filtered}
 use Rattle.compensation.specs.Values.{valuesOf}
 use Rattle.compensation.specs.declared.steps.Values.{Values}
 use Rattle.compensation.proofs.Faithful.{faithful}
-use Rattle.state.specs.Reading.{badReading, peakAfter, trofAfter, joined, heldAfter, taken}
-use Rattle.state.specs.Request.{reboot, zeroBy, setupBy, fresh, snapped, peaksAt, peaksReset, stateBy}
+use Rattle.binary32.specs.Received.{zeroSteps, flagWhole}
+use Rattle.modbus.specs.Frame.{judged}
+use Rattle.modbus.specs.declared.frame.Frame.{Frame}
+use Rattle.modbus.specs.declared.frame.Frame.the-variants.{Refused, Read, Write, Act}
+use Rattle.state.specs.Reading.{badReading, peakAfter, trofAfter, joined, heldAfter, taken, takenAt}
+use Rattle.state.specs.Request.{reboot, withZero, zeroBy, fresh, snapped, peaksAt, peaksReset, acted, written, stateBy}
 use Rattle.state.specs.declared.Setup.{Setup}
 use Rattle.state.specs.declared.Readings.{Readings}
 use Rattle.state.specs.declared.State.{State}
 use Rattle.converter.specs.declared.Device.{Device}
-use Rattle.state.specs.declared.requests.Request.{Request}
-use Rattle.state.specs.declared.requests.Request.the-variants.{Refuse, Show, Flag, Zero, Rst, Snap, PeakReset}
 use Rattle.converter.specs.Making.{made, setupOf, started}
-use Rattle.converter.specs.Call.{Call, reading, frame, report, asked, obeyed, read, step, run}
+use Rattle.converter.specs.Call.{Call, reading, frame, report, obeyed, read, step, run}
 use Rattle.converter.specs.Log as log
 use Rattle.converter.specs.Log.{Kept, valued, Entry, peakReset, Event, Log, latest, begun, heldBy, keptOf, join, resetPeaks, heed, note, noted, logOf}
 use Rattle.converter.specs.History.{sysSince, Largest, Smallest, Right, Shown, Agrees, History}
@@ -91,7 +95,7 @@ joins r held es t k ok e = record {
 
 reads : (d : Device) (l : Log) → Tracks d l → (elec temp : ℤ) (integrity : ℕ) → badReading elec temp integrity ≡ false
     → Tracks (read d elec temp integrity) (join l (keptOf l elec temp integrity))
-unfolding taken
+unfolding taken takenAt
 reads d l t elec temp integrity g = record {
   setup-is = t .setup-is;
   tells = subst (λ (r : Readings). Tells r (some (k .elec)) (log.joined k ∷ l .readings)) (sym same-readings) (joins (d .state .readings) (l .held) (l .readings) (t .tells) k ok within-held);
@@ -180,35 +184,50 @@ snap-leaves s = go (s .readings .any)
     go true = (refl, refl)
     go false = (refl, refl)
 
-obeys : (d : Device) (l : Log) → Tracks d l → (q : Request) → Sound (obeyed d q) → Tracks (obeyed d q) (heed l q)
-unfolding zeroBy stateBy
-obeys d l t (Refuse n) h = t
-obeys d l t (Show r) h = t
-obeys d l t (Flag m) h = record { setup-is = t .setup-is; tells = t .tells; latched = λ b. latch-kept b (d .state .flag) m (l .events) (t .latched b); sound = h }
-obeys d l t (Zero z) h = record { setup-is = ap (λ (s : Setup). setupBy s (Zero z)) (t .setup-is); tells = t .tells; latched = t .latched; sound = h }
-obeys d l t Rst h = begins (d .setup) (l .setup) (l .events) (t .setup-is) h
-obeys d l t Snap h = record {
+-- SZ as a write leaves it, where it is not one of FLAG
+abbrev zeroed : Setup → Bool → Float → Setup
+zeroed s flag x = record { figures = withZero (s .figures) (cond flag (s .figures .system .sz) (zeroSteps x)); station = s .station }
+
+writes : (d : Device) (l : Log) → Tracks d l → (x : Float) (flag : Bool)
+    → let after : Device = record { setup = zeroed (d .setup) flag x; state = cond flag (record { readings = d .state .readings; flag = bitAnd (d .state .flag) (flagWhole x); snapshot = d .state .snapshot }) (d .state) } in
+    Sound after → Tracks after (cond flag (record { setup = l .setup; held = l .held; readings = l .readings; events = log.kept (flagWhole x) ∷ l .events })
+    (record { setup = zeroed (l .setup) flag x; held = l .held; readings = l .readings; events = l .events }))
+writes d l t x true h = record { setup-is = t .setup-is; tells = t .tells; latched = λ b. latch-kept b (d .state .flag) (flagWhole x) (l .events) (t .latched b); sound = h }
+writes d l t x false h = record { setup-is = ap (λ (s : Setup). zeroed s false x) (t .setup-is); tells = t .tells; latched = t .latched; sound = h }
+
+acts : (d : Device) (l : Log) → Tracks d l → (rst snap : Bool)
+    → let after : Device = record { setup = d .setup; state = cond rst fresh (cond snap (snapped (d .state)) (peaksReset (d .state))) } in
+    Sound after → Tracks after (cond rst (begun (l .setup) (l .events)) (cond snap l (record { setup = l .setup; held = l .held; readings = resetPeaks (latest (l .readings)) (l .readings); events = l .events })))
+acts d l t true snap h = begins (d .setup) (l .setup) (l .events) (t .setup-is) h
+acts d l t false true h = record {
   setup-is = t .setup-is;
   tells = subst (λ (r : Readings). Tells r (l .held) (l .readings)) (sym (snap-leaves (d .state) .0)) (t .tells);
   latched = λ b. subst (λ (n : ℕ). Latched b n (l .events)) (sym (snap-leaves (d .state) .1)) (t .latched b);
   sound = h;
 }
-obeys d l t PeakReset h = record {
+acts d l t false false h = record {
   setup-is = t .setup-is;
   tells = reset-tells (d .state) (l .held) (l .readings) (t .tells) (latest (l .readings)) refl;
   latched = λ b. subst (λ (n : ℕ). Latched b n (l .events)) (sym (peaks-flag (d .state))) (t .latched b);
   sound = h;
 }
 
+obeys : (d : Device) (l : Log) → Tracks d l → (f : Frame) → Sound (obeyed d f) → Tracks (obeyed d f) (heed l f)
+unfolding zeroBy stateBy written acted
+obeys d l t (Refused n) h = t
+obeys d l t (Read r) h = t
+obeys d l t (Write r x) h = writes d l t x (eqb r 14) h
+obeys d l t (Act r) h = acts d l t (eqb r 100) (eqb r 103) h
+
 -- ---- one call, and all of them
 
 pub steps : (d : Device) (l : Log) → Tracks d l → (c : Call) → Tracks (step d c) (note l c)
 steps d l t (reading elec temp integrity) = reads-or-not d l t elec temp integrity (badReading elec temp integrity) refl
 steps d l t (frame bytes room) =
-    let q : Request = asked (l .setup) bytes room in
-    let same : asked (d .setup) bytes room ≡ q = ap (λ (s : Setup). asked s bytes room) (t .setup-is) in
-    subst (λ (a : Request). Tracks (obeyed d a) (heed l q)) (sym same)
-    (obeys d l t q (subst (λ (a : Request). Sound (obeyed d a)) same (step-sound d (frame bytes room) (t .sound))))
+    let f : Frame = judged bytes room (l .setup .station) in
+    let same : judged bytes room (d .setup .station) ≡ f = ap (λ (s : Setup). judged bytes room (s .station)) (t .setup-is) in
+    subst (λ (g : Frame). Tracks (obeyed d g) (heed l f)) (sym same)
+    (obeys d l t f (subst (λ (g : Frame). Sound (obeyed d g)) same (step-sound d (frame bytes room) (t .sound))))
 steps d l t report = t
 
 pub runs : (d : Device) (l : Log) → Tracks d l → (cs : List Call) → Tracks (run d cs) (noted l cs)

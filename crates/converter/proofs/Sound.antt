@@ -1,7 +1,7 @@
 -- What every device that our calls gave keeps: acceptable figures, and values that fit the filter, the arithmetic and a float. The
 -- entries need no more of a device. Assumes nothing.
 use mathlib.Core.Path.{_≡_, refl}
-use mathlib.Core.Bool.{Bool, true, false, cond, not, _||_}
+use mathlib.Core.Bool.{Bool, true, false, not, _||_}
 use mathlib.Core.List.{List, [], _∷_}
 use Prim.Native.Nat.{ℕ, _≤_}
 use native.Mathlib.Omega.{arith}
@@ -16,24 +16,23 @@ use Rattle.figures.specs.Limits.{szMost}
 use Rattle.figures.specs.declared.Calibration.{Calibration}
 use Rattle.compensation.specs.Filter.{elecMost}
 use Rattle.compensation.specs.Reading.{sys}
-use Rattle.compensation.specs.Values.{valuesOf}
+use Rattle.compensation.specs.Values.{valuesAt, valuesOf}
 use Rattle.compensation.proofs.FilterHull.{filtered-within}
-use Rattle.compensation.proofs.Magnitudes.{magnitudes}
-use Rattle.binary32.specs.Received.{zeroSteps, flagWhole}
+use Rattle.compensation.proofs.Magnitudes.{magnitudes-of}
+use Rattle.binary32.specs.Received.{zeroSteps}
 use Rattle.binary32.proofs.Bounded.{zero-within}
 use Rattle.modbus.specs.declared.frame.Frame.{Frame}
-use Rattle.modbus.specs.declared.frame.Frame.the-variants.{Write, Read, Act, Refused}
-use Rattle.state.specs.Reading.{tempMost, outside, beyond, badReading, larger, smaller, peakAfter, trofAfter, joined, heldAfter, taken}
-use Rattle.state.specs.Request.{requested, withZero, zeroBy, setupBy, noReadings, fresh, snapped, peaksAt, peaksReset, stateBy}
+use Rattle.modbus.specs.declared.frame.Frame.the-variants.{Refused, Read, Write, Act}
+use Rattle.modbus.specs.Frame.{judged}
+use Rattle.state.specs.Reading.{tempMost, outside, beyond, badReading, larger, smaller, peakAfter, trofAfter, joined, heldAfter, taken, takenAt}
+use Rattle.state.specs.Request.{withZero, zeroBy, setupBy, noReadings, fresh, snapped, peaksAt, peaksReset, acted, written, stateBy}
 use Rattle.state.specs.Register.{valueMost, ReadingsWithin, StateWithin}
 use Rattle.state.specs.declared.Setup.{Setup}
 use Rattle.state.specs.declared.Readings.{Readings}
 use Rattle.state.specs.declared.State.{State}
 use Rattle.converter.specs.declared.Device.{Device}
-use Rattle.state.specs.declared.requests.Request.{Request}
-use Rattle.state.specs.declared.requests.Request.the-variants.{Refuse, Show, Flag, Zero, Rst, Snap, PeakReset}
 use Rattle.converter.specs.Making.{started}
-use Rattle.converter.specs.Call.{Call, reading, frame, report, asked, read, step, run}
+use Rattle.converter.specs.Call.{Call, reading, frame, report, read, step, run}
 
 pub record ReadingsSound (r : Readings) : Type 0 where
   pub held-in : (r .elec) within elecMost
@@ -87,9 +86,9 @@ smaller-within {n} a b h k = pick (ltZ b a) b a (λ z. z within n) (λ e. k) (λ
 
 join-sound : (c : Calibration) (r : Readings) (elec temp : ℤ) (integrity : ℕ) → Acceptable c → ReadingsSound r → elec within elecMost → temp within tempMost
     → ReadingsSound (joined r elec temp (valuesOf c elec temp integrity))
-unfolding joined peakAfter trofAfter valuesOf
+unfolding joined peakAfter trofAfter valuesAt
 join-sound c r elec temp integrity ok h e t =
-    let m = magnitudes c elec temp ok e in
+    let m = magnitudes-of c elec temp ok e in
     let w = h .values-in in
     record {
       held-in = e;
@@ -106,7 +105,7 @@ join-sound c r elec temp integrity ok h e t =
     }
 
 read-sound : (d : Device) (elec temp : ℤ) (integrity : ℕ) → Sound d → badReading elec temp integrity ≡ false → Sound (read d elec temp integrity)
-unfolding taken
+unfolding taken takenAt
 read-sound d elec temp integrity h e = record {
   acceptable = h .acceptable;
   state-ok = record {
@@ -115,23 +114,7 @@ read-sound d elec temp integrity h e = record {
   };
 }
 
--- ---- a request
-
-abbrev RequestSound : Request → Type 0
-RequestSound (Refuse n) = Unit {0}
-RequestSound (Show r) = Unit {0}
-RequestSound (Flag m) = Unit {0}
-RequestSound (Zero z) = z within szMost
-RequestSound Rst = Unit {0}
-RequestSound Snap = Unit {0}
-RequestSound PeakReset = Unit {0}
-
-requested-sound : (f : Frame) → RequestSound (requested f)
-unfolding requested
-requested-sound (Write r x) = pick (eqb r 14) (Flag (flagWhole x)) (Zero (zeroSteps x)) RequestSound (λ e. tt) (λ e. zero-within x)
-requested-sound (Read r) = tt
-requested-sound (Act r) = pick (eqb r 100) Rst (cond (eqb r 103) Snap PeakReset) RequestSound (λ e. tt) (λ e. pick (eqb r 103) Snap PeakReset RequestSound (λ e. tt) (λ e. tt))
-requested-sound (Refused n) = tt
+-- ---- a frame
 
 zero-acceptable : (c : Calibration) (z : ℤ) → Acceptable c → z within szMost → Acceptable (withZero c z)
 zero-acceptable c z ok h = record {
@@ -149,15 +132,12 @@ zero-acceptable c z ok h = record {
   filter-ok = ok .filter-ok;
 }
 
-setup-sound : (s : Setup) (q : Request) → RequestSound q → Acceptable (s .figures) → Acceptable (setupBy s q .figures)
+setup-sound : (s : Setup) (f : Frame) → Acceptable (s .figures) → Acceptable (setupBy s f .figures)
 unfolding zeroBy
-setup-sound s (Refuse n) g h = h
-setup-sound s (Show r) g h = h
-setup-sound s (Flag m) g h = h
-setup-sound s (Zero z) g h = zero-acceptable (s .figures) z h g
-setup-sound s Rst g h = h
-setup-sound s Snap g h = h
-setup-sound s PeakReset g h = h
+setup-sound s (Refused n) h = h
+setup-sound s (Read r) h = h
+setup-sound s (Write r x) h = pick (eqb r 14) (s .figures .system .sz) (zeroSteps x) (λ z. Acceptable (withZero (s .figures) z)) (λ e. h) (λ e. zero-acceptable (s .figures) (zeroSteps x) h (zero-within x))
+setup-sound s (Act r) h = h
 
 nought : {n : ℕ} → (pos 0) within n
 nought {n} = record { abs = zero≤ n }
@@ -184,18 +164,23 @@ peaks-within r w = record {
   trof-in = w .sys-in;
 }
 
-state-sound : (s : State) (q : Request) → StateSound s → StateSound (stateBy s q)
-unfolding stateBy snapped peaksReset
-state-sound s (Refuse n) h = h
-state-sound s (Show r) h = h
-state-sound s (Flag m) h = record { readings-ok = h .readings-ok; sysn-in = h .sysn-in }
-state-sound s (Zero z) h = h
-state-sound s Rst h = fresh-sound
-state-sound s Snap h = pick (s .readings .any) _ s StateSound (λ e. record { readings-ok = h .readings-ok; sysn-in = h .readings-ok .values-in .sys-in }) (λ e. h)
-state-sound s PeakReset h =
+snap-sound : (s : State) → StateSound s → StateSound (snapped s)
+unfolding snapped
+snap-sound s h = pick (s .readings .any) _ s StateSound (λ e. record { readings-ok = h .readings-ok; sysn-in = h .readings-ok .values-in .sys-in }) (λ e. h)
+
+reset-sound : (s : State) → StateSound s → StateSound (peaksReset s)
+unfolding peaksReset
+reset-sound s h =
     pick (s .readings .any) _ s StateSound
     (λ e. record { readings-ok = record { held-in = h .readings-ok .held-in; values-in = peaks-within (s .readings) (h .readings-ok .values-in) }; sysn-in = h .sysn-in })
     (λ e. h)
+
+state-sound : (s : State) (f : Frame) → StateSound s → StateSound (stateBy s f)
+unfolding stateBy written acted
+state-sound s (Refused n) h = h
+state-sound s (Read r) h = h
+state-sound s (Write r x) h = pick (eqb r 14) _ s StateSound (λ e. record { readings-ok = h .readings-ok; sysn-in = h .sysn-in }) (λ e. h)
+state-sound s (Act r) h = pick (eqb r 100) fresh _ StateSound (λ e. fresh-sound) (λ e. pick (eqb r 103) (snapped s) (peaksReset s) StateSound (λ e. snap-sound s h) (λ e. reset-sound s h))
 
 -- ---- a start, one call, and a list of them
 
@@ -204,10 +189,9 @@ started-sound s h = record { acceptable = h; state-ok = fresh-sound }
 
 pub step-sound : (d : Device) (c : Call) → Sound d → Sound (step d c)
 step-sound d (reading elec temp integrity) h = pick (badReading elec temp integrity) d (read d elec temp integrity) Sound (λ e. h) (λ e. read-sound d elec temp integrity h e)
-step-sound d (frame bytes room) h = record {
-  acceptable = setup-sound (d .setup) (asked (d .setup) bytes room) (requested-sound _) (h .acceptable);
-  state-ok = state-sound (d .state) (asked (d .setup) bytes room) (h .state-ok);
-}
+step-sound d (frame bytes room) h =
+    let f : Frame = judged bytes room (d .setup .station) in
+    record { acceptable = setup-sound (d .setup) f (h .acceptable); state-ok = state-sound (d .state) f (h .state-ok) }
 step-sound d report h = h
 
 pub run-sound : (d : Device) (cs : List Call) → Sound d → Sound (run d cs)

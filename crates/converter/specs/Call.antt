@@ -4,14 +4,13 @@ use mathlib.Core.List.{List, [], _∷_}
 use Prim.Native.Nat.{ℕ}
 use lib.IntN.{ℤ}
 use Rattle.modbus.specs.Frame.{judged}
+use Rattle.modbus.specs.declared.frame.Frame.{Frame}
 use Rattle.modbus.specs.Reply.{valueReply, writeReply, exceptionReply}
 use Rattle.state.specs.Reading.{badReading, taken}
-use Rattle.state.specs.Request.{requested, setupBy, stateBy}
+use Rattle.state.specs.Request.{setupBy, stateBy}
 use Rattle.state.specs.Register.{answered, numberOf}
 use Rattle.state.specs.Report.{reported}
-use Rattle.state.specs.declared.Setup.{Setup}
 use Rattle.converter.specs.declared.Device.{Device}
-use Rattle.state.specs.declared.requests.Request.{Request}
 use Rattle.state.specs.declared.registers.Answer.{Answer}
 use Rattle.state.specs.declared.registers.Answer.the-variants.{Value, Done, Refused}
 
@@ -21,12 +20,9 @@ pub data Call : Type 0 where
   frame : (bytes : List ℕ) (room : ℕ) → Call
   report : Call
 
--- what a frame asks of the station
-abbrev pub asked : Setup → List ℕ → ℕ → Request
-asked setup bytes room = requested (judged bytes room (setup .station))
-
-abbrev pub obeyed : Device → Request → Device
-obeyed d q = record { setup = setupBy (d .setup) q; state = stateBy (d .state) q }
+-- a judged frame is obeyed
+abbrev pub obeyed : Device → Frame → Device
+obeyed d f = record { setup = setupBy (d .setup) f; state = stateBy (d .state) f }
 
 -- ---- the device after a call, and after a list of them: "Each call gets the device that the last gave back"
 
@@ -35,7 +31,7 @@ read d elec temp integrity = record { setup = d .setup; state = taken (d .setup 
 
 abbrev pub step : Device → Call → Device
 step d (reading elec temp integrity) = cond (badReading elec temp integrity) d (read d elec temp integrity)
-step d (frame bytes room) = obeyed d (asked (d .setup) bytes room)
+step d (frame bytes room) = obeyed d (judged bytes room (d .setup .station))
 step d report = d
 
 abbrev pub run : Device → List Call → Device
@@ -45,7 +41,7 @@ run d (c ∷ cs) = run (step d c) cs
 -- ---- the number that a call gives, and a frame's reply
 
 unfoldable pub answerTo : Device → List ℕ → ℕ → Answer
-answerTo d bytes room = answered (d .state) (d .setup .figures .system .sz) (asked (d .setup) bytes room)
+answerTo d bytes room = answered (d .state) (d .setup .figures .system .sz) (judged bytes room (d .setup .station))
 
 abbrev pub number : Device → Call → ℕ
 number d (reading elec temp integrity) = cond (badReading elec temp integrity) 9 0

@@ -5,18 +5,21 @@ use mathlib.Core.Bool.{true, false, cond}
 use mathlib.Core.List.{List, [], _∷_}
 use mathlib.Core.Option.{Option, none, some}
 use Prim.Native.Nat.{ℕ}
+use lib.Dec.{eqb}
 use lib.IntN.{ℤ, pos}
 use Rattle.figures.specs.declared.Calibration.{Calibration}
 use Rattle.compensation.specs.Filter.{filtered}
 use Rattle.compensation.specs.Values.{valuesOf}
 use Rattle.compensation.specs.declared.steps.Values.{Values}
+use Rattle.binary32.specs.Received.{flagWhole}
+use Rattle.modbus.specs.Frame.{judged}
+use Rattle.modbus.specs.declared.frame.Frame.{Frame}
+use Rattle.modbus.specs.declared.frame.Frame.the-variants.{Refused, Read, Write, Act}
 use Rattle.state.specs.Reading.{badReading}
 use Rattle.state.specs.Request.{reboot, setupBy}
 use Rattle.state.specs.declared.Setup.{Setup}
-use Rattle.state.specs.declared.requests.Request.{Request}
-use Rattle.state.specs.declared.requests.Request.the-variants.{Refuse, Show, Flag, Zero, Rst, Snap, PeakReset}
 use Rattle.converter.specs.Making.{setupOf}
-use Rattle.converter.specs.Call.{Call, reading, frame, report, asked}
+use Rattle.converter.specs.Call.{Call, reading, frame, report}
 
 -- a reading that joined: the figures in force at it, its filtered input, TEMP and integrity byte
 pub record Kept : Type 0 where
@@ -71,19 +74,21 @@ abbrev pub resetPeaks : Option Kept → List Entry → List Entry
 resetPeaks none es = es
 resetPeaks (some k) es = peakReset ∷ es
 
--- "Reads, SNAP, reports and refused calls .. do nothing."
-abbrev pub heed : Log → Request → Log
-heed l (Refuse n) = l
-heed l (Show r) = l
-heed l (Flag m) = record { setup = l .setup; held = l .held; readings = l .readings; events = kept m ∷ l .events }
-heed l (Zero z) = record { setup = setupBy (l .setup) (Zero z); held = l .held; readings = l .readings; events = l .events }
-heed l Rst = begun (setupBy (l .setup) Rst) (l .events)
-heed l Snap = l
-heed l PeakReset = record { setup = l .setup; held = l .held; readings = resetPeaks (latest (l .readings)) (l .readings); events = l .events }
+-- "Reads, SNAP, reports and refused calls .. do nothing."; FLAG 14, SZ 22; RST 100, SNAP 103, peak reset 104
+abbrev pub heed : Log → Frame → Log
+heed l (Refused n) = l
+heed l (Read r) = l
+heed l (Write r x) =
+    cond (eqb r 14) (record { setup = l .setup; held = l .held; readings = l .readings; events = kept (flagWhole x) ∷ l .events })
+    (record { setup = setupBy (l .setup) (Write r x); held = l .held; readings = l .readings; events = l .events })
+heed l (Act r) =
+    cond (eqb r 100) (begun (setupBy (l .setup) (Act r)) (l .events))
+    (cond (eqb r 103) l
+    (record { setup = l .setup; held = l .held; readings = resetPeaks (latest (l .readings)) (l .readings); events = l .events }))
 
 abbrev pub note : Log → Call → Log
 note l (reading elec temp integrity) = cond (badReading elec temp integrity) l (join l (keptOf l elec temp integrity))
-note l (frame bytes room) = heed l (asked (l .setup) bytes room)
+note l (frame bytes room) = heed l (judged bytes room (l .setup .station))
 note l report = l
 
 abbrev pub noted : Log → List Call → Log

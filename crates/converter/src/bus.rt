@@ -1,14 +1,12 @@
 // What the bus does with the parts of a device (01, "The bus").
 ghost use mathlib.Core.Path.{_≡_};
 ghost use lib.ListN.{length};
-ghost use Rattle.modbus.specs.Frame.{judged};
 ghost use Rattle.modbus.specs.Reply.{Replied};
-ghost use Rattle.state.specs.Request.{requested};
 ghost use Rattle.state.specs.Register.{answered, numberOf};
 ghost use Rattle.converter.specs.Call.{replyWith};
 ghost use Rattle.converter.specs.Reached.{Parts, Answering};
+use modbus::frame::Frame;
 use state::Answer;
-use state::Request;
 use state::State;
 
 // The number, 0 where the frame was obeyed, and the length replied, 0 for none.
@@ -16,13 +14,6 @@ use state::State;
 pub struct Answered {
     pub number: u8,
     pub length: usize,
-}
-
-// What a frame asks of a station's device, given the room for a reply.
-pub fn asked(frame: &[u8], room: usize, station: u8) -> Request
-    ensures { λ r. ⌜ r ≡ requested (judged (now (frame .entry)) room station) ⌝ }
-{
-    state::request_of(modbus::frame::judge(frame, room, station))
 }
 
 fn number_in(answer: Answer) -> u8
@@ -46,8 +37,8 @@ fn reply_with(frame: &[u8], reply: &mut [u8], answer: Answer) -> usize
     }
 }
 
-// The request answered, and the reply written.
-pub fn answer(state: State, sz: i64, request: Request, frame: &[u8], reply: &mut [u8]) -> Answered
+// What a judged frame asks is answered, and the reply to its bytes written.
+pub fn answer(state: State, sz: i64, request: Frame, frame: &[u8], reply: &mut [u8]) -> Answered
     requires { ⌜ Parts state sz ⌝ }
     ensures { λ r. ⌜ Answering (answered state sz request) (now (frame .entry)) (now (reply .entry)) (now (reply .exit)) r ⌝ }
 {

@@ -9,7 +9,6 @@ mod making;
 
 pub use bus::Answered;
 pub use bus::answer;
-pub use bus::asked;
 use state::Reported;
 use state::Setup;
 use state::State;
@@ -66,7 +65,24 @@ impl Device {
             };
         }
         let setup = self.setup;
-        let state = state::take(setup.figures, self.state, elec, temp, integrity);
+        let figures = setup.figures;
+        let before = self.state;
+        let input = state::input_of(
+            figures.filter,
+            figures.temperature,
+            before.readings,
+            elec,
+            temp,
+        );
+        let state = state::take(
+            figures.cell,
+            figures.linearity,
+            figures.system,
+            before,
+            input,
+            temp,
+            integrity,
+        );
         let mut device = self;
         device.state = state;
         Outcome { number: 0, device }
@@ -89,7 +105,7 @@ impl Device {
         let before = self.setup;
         let figures = before.figures;
         let system = figures.system;
-        let request = bus::asked(frame, reply.len(), before.station);
+        let request = modbus::frame::judge(frame, reply.len(), before.station);
         let answered = bus::answer(self.state, system.sz, request, frame, reply);
         let setup = state::setup_after(before, request);
         let state = state::state_after(self.state, request);

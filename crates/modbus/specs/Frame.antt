@@ -12,7 +12,7 @@ use Rattle.binary32.specs.Wire.{received}
 use Rattle.modbus.specs.declared.register.Access.{Access}
 use Rattle.modbus.specs.declared.register.Access.the-variants.{Unlisted, ReadOnly, Flag, Zero, Action}
 use Rattle.modbus.specs.declared.frame.Frame.{Frame}
-use Rattle.modbus.specs.declared.frame.Frame.the-variants.{Write, Read, Act, Refused}
+use Rattle.modbus.specs.declared.frame.Frame.the-variants.{Refused, Read, Write, Act}
 use Rattle.modbus.specs.Checksum.{checksumOf}
 use Rattle.modbus.specs.Register.{accessOf}
 

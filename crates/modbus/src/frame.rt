@@ -8,10 +8,10 @@ use crate::register::Access;
 // A good frame, or the number that it is turned down with. A write carries the float that it sends,
 // which its register takes.
 pub enum Frame {
-    Write(u16, f32),
-    Read(u16),
-    Act(u16),
     Refused(u8),
+    Read(u16),
+    Write(u16, f32),
+    Act(u16),
 }
 
 // Two bytes, the high one first.

@@ -5,11 +5,16 @@ use lib.Bits.{bitOr}
 use lib.Dec.{ltb}
 use lib.IntN.{ℤ, pos, negℤ}
 use lib.Signed.{ltZ}
-use Rattle.integers.specs.Within.{_within_}
-use Rattle.figures.specs.Acceptable.{Acceptable}
 use Rattle.figures.specs.declared.Calibration.{Calibration}
+use Rattle.figures.specs.declared.Cell.{Cell}
+use Rattle.figures.specs.declared.Filter.{Filter}
+use Rattle.figures.specs.declared.Linearity.{Linearity}
+use Rattle.figures.specs.declared.System.{System}
+use Rattle.figures.specs.declared.Temperature.{Temperature}
 use Rattle.compensation.specs.Filter.{elecMost, filtered}
-use Rattle.compensation.specs.Values.{valuesOf}
+use Rattle.compensation.specs.Reading.{inputOf}
+use Rattle.compensation.specs.Values.{valuesAt}
+use Rattle.compensation.specs.declared.steps.Input.{Input}
 use Rattle.compensation.specs.declared.steps.Values.{Values}
 use Rattle.state.specs.declared.Readings.{Readings}
 use Rattle.state.specs.declared.State.{State}
@@ -49,15 +54,16 @@ joined r elec temp v = record { any = true; elec = elec; temp = temp; values = v
 abbrev pub heldAfter : Calibration → Readings → ℤ → ℤ
 heldAfter c r elec = filtered (c .filter) (not (r .any)) (r .elec) elec
 
--- 1 to 6, by the figures c in force; "A reading raises its STAT bits in FLAG"
-unfoldable pub taken : Calibration → State → ℤ → ℤ → ℕ → State
-taken c s elec temp integrity =
-    let held : ℤ = heldAfter c (s .readings) elec in
-    let v : Values = valuesOf c held temp integrity in
-    record { readings = joined (s .readings) held temp v; flag = bitOr (s .flag) (v .stat); snapshot = s .snapshot }
+-- 1 and 2
+abbrev pub inputAfter : Filter → Temperature → Readings → ℤ → ℤ → Input
+inputAfter f t r elec temp = inputOf f t (not (r .any)) (r .elec) elec temp
 
--- what the arithmetic of a reading needs: acceptable figures, and inputs that 9 does not turn down
-pub record TakeInput (c : Calibration) (s : State) (elec : ℤ) : Type 0 where
-  pub acceptable : Acceptable c
-  pub held-in : (s .readings .elec) within elecMost
-  pub elec-in : elec within elecMost
+-- 3 to 6, by the parts of the figures that they need; "A reading raises its STAT bits in FLAG"
+unfoldable pub takenAt : Cell → Linearity → System → State → Input → ℤ → ℕ → State
+takenAt c l s state i temp integrity =
+    let v : Values = valuesAt c l s i temp integrity in
+    record { readings = joined (state .readings) (i .elec) temp v; flag = bitOr (state .flag) (v .stat); snapshot = state .snapshot }
+
+-- 1 to 6, by the figures c in force
+unfoldable pub taken : Calibration → State → ℤ → ℤ → ℕ → State
+taken c s elec temp integrity = takenAt (c .cell) (c .linearity) (c .system) s (inputAfter (c .filter) (c .temperature) (s .readings) elec temp) temp integrity

@@ -1,4 +1,4 @@
--- What a request is answered with, and the registers as they read (01, "The bus").
+-- What a frame is answered with, and the registers as they read (01, "The bus").
 use mathlib.Core.Bool.{cond}
 use Prim.Native.Nat.{ℕ}
 use lib.Dec.{eqb, leb}
@@ -6,10 +6,11 @@ use lib.IntN.{ℤ}
 use lib.Ieee.{Float}
 use Rattle.integers.specs.Within.{_within_}
 use Rattle.binary32.specs.Sent.{stepFloat, wholeFloat}
+use Rattle.modbus.specs.declared.frame.Frame.{Frame}
+use Rattle.modbus.specs.declared.frame.Frame.the-variants as frame
+use Rattle.modbus.specs.declared.frame.Frame.the-variants.{Read, Write, Act}
 use Rattle.state.specs.declared.Readings.{Readings}
 use Rattle.state.specs.declared.State.{State}
-use Rattle.state.specs.declared.requests.Request.{Request}
-use Rattle.state.specs.declared.requests.Request.the-variants.{Refuse, Show, Flag, Zero, Rst, Snap, PeakReset}
 use Rattle.state.specs.declared.registers.Answer.{Answer}
 use Rattle.state.specs.declared.registers.Answer.the-variants.{Value, Done, Refused}
 
@@ -48,14 +49,12 @@ registerAt s sz n =
 unfoldable pub onReading : State → Answer
 onReading s = cond (s .readings .any) Done (Refused 10)
 
-unfoldable pub answered : State → ℤ → Request → Answer
-answered s sz (Refuse n) = Refused n
-answered s sz (Show n) = registerAt s sz n
-answered s sz (Flag kept) = Done
-answered s sz (Zero z) = Done
-answered s sz Rst = Done
-answered s sz Snap = onReading s
-answered s sz PeakReset = onReading s
+-- of the three actions only RST (100) needs no reading
+unfoldable pub answered : State → ℤ → Frame → Answer
+answered s sz (frame.Refused n) = Refused n
+answered s sz (Read n) = registerAt s sz n
+answered s sz (Write r x) = Done
+answered s sz (Act r) = cond (eqb r 100) Done (onReading s)
 
 -- An answer's number: "An accepted call gives 0".
 abbrev pub numberOf : Answer → ℕ

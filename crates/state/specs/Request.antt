@@ -1,29 +1,19 @@
--- What a frame asks of a device, and what becomes of the device (01, "The bus"): "SNAP copies SYS to SYSN. RST forgets readings,
--- snapshot and filter."
-use mathlib.Core.Bool.{Bool, true, false, cond}
+-- What a frame makes of a device (01, "The bus"): "SNAP copies SYS to SYSN. RST forgets readings, snapshot and filter."
+use mathlib.Core.Bool.{Bool, true, false, cond, not}
 use Prim.Native.Nat.{ℕ}
 use lib.Bits.{bitAnd}
 use lib.Dec.{eqb}
+use lib.Ieee.{Float}
 use lib.IntN.{ℤ, pos}
 use Rattle.figures.specs.declared.Calibration.{Calibration}
 use Rattle.compensation.specs.declared.steps.Values.{Values}
 use Rattle.binary32.specs.Received.{zeroSteps, flagWhole}
 use Rattle.modbus.specs.declared.frame.Frame.{Frame}
-use Rattle.modbus.specs.declared.frame.Frame.the-variants.{Write, Read, Act, Refused}
+use Rattle.modbus.specs.declared.frame.Frame.the-variants.{Refused, Read, Write, Act}
 use Rattle.state.specs.declared.Setup.{Setup}
 use Rattle.state.specs.declared.Readings.{Readings}
 use Rattle.state.specs.declared.Snapshot.{Snapshot}
 use Rattle.state.specs.declared.State.{State}
-use Rattle.state.specs.declared.requests.Request.{Request}
-use Rattle.state.specs.declared.requests.Request.the-variants.{Refuse, Show, Flag, Zero, Rst, Snap, PeakReset}
-
--- "Only FLAG, SZ and the last three take a write" (RST 100, SNAP 103, peak reset 104): a judged frame holds no other register.
--- "SZ takes ±32,000, rounded to a step".
-unfoldable pub requested : Frame → Request
-requested (Write r x) = cond (eqb r 14) (Flag (flagWhole x)) (Zero (zeroSteps x))
-requested (Read r) = Show r
-requested (Act r) = cond (eqb r 100) Rst (cond (eqb r 103) Snap PeakReset)
-requested (Refused n) = Refuse n
 
 -- ---- the figures in force
 
@@ -37,19 +27,23 @@ withZero c z = record {
   filter = c .filter;
 }
 
--- SZ after a request; "RST keeps it"
-unfoldable pub zeroBy : ℤ → Request → ℤ
-zeroBy sz (Refuse n) = sz
-zeroBy sz (Show r) = sz
-zeroBy sz (Flag kept) = sz
-zeroBy sz (Zero z) = z
-zeroBy sz Rst = sz
-zeroBy sz Snap = sz
-zeroBy sz PeakReset = sz
+-- SZ after a frame: "SZ takes ±32,000, rounded to a step"; "RST keeps it". A judged frame writes no register but FLAG (14) and SZ.
+unfoldable pub zeroBy : ℤ → Frame → ℤ
+zeroBy sz (Refused n) = sz
+zeroBy sz (Read r) = sz
+zeroBy sz (Write r x) = cond (eqb r 14) sz (zeroSteps x)
+zeroBy sz (Act r) = sz
 
--- what a request makes of them. The log uses it too.
-abbrev pub setupBy : Setup → Request → Setup
-setupBy s q = record { figures = withZero (s .figures) (zeroBy (s .figures .system .sz) q); station = s .station }
+-- can a frame change SZ? One that cannot leaves it as it is (`zero-unchanged`, `proofs/Unchanged.antt`).
+unfoldable pub changesZero : Frame → Bool
+changesZero (Refused n) = false
+changesZero (Read r) = false
+changesZero (Write r x) = not (eqb r 14)
+changesZero (Act r) = false
+
+-- what a frame makes of them. The log uses it too.
+abbrev pub setupBy : Setup → Frame → Setup
+setupBy s f = record { figures = withZero (s .figures) (zeroBy (s .figures .system .sz) f); station = s .station }
 
 -- ---- all else
 
@@ -83,22 +77,23 @@ peaksAt r = record { any = r .any; elec = r .elec; temp = r .temp; values = r .v
 unfoldable pub peaksReset : State → State
 peaksReset s = cond (s .readings .any) (record { readings = peaksAt (s .readings); flag = s .flag; snapshot = s .snapshot }) s
 
--- "a FLAG write clears the bits it lacks"
-unfoldable pub stateBy : State → Request → State
-stateBy s (Refuse n) = s
-stateBy s (Show r) = s
-stateBy s (Flag kept) = record { readings = s .readings; flag = bitAnd (s .flag) kept; snapshot = s .snapshot }
-stateBy s (Zero z) = s
-stateBy s Rst = fresh
-stateBy s Snap = snapped s
-stateBy s PeakReset = peaksReset s
+-- "RST 100, SNAP 103, peak reset 104": a judged frame acts by no other register
+unfoldable pub acted : State → ℕ → State
+acted s r = cond (eqb r 100) fresh (cond (eqb r 103) (snapped s) (peaksReset s))
 
--- can a request change the state? One that cannot leaves it as it is (`state-unchanged`, `proofs/Unchanged.antt`).
-unfoldable pub changesState : Request → Bool
-changesState (Refuse n) = false
-changesState (Show r) = false
-changesState (Flag kept) = true
-changesState (Zero z) = false
-changesState Rst = true
-changesState Snap = true
-changesState PeakReset = true
+-- "a FLAG write clears the bits it lacks"
+unfoldable pub written : State → ℕ → Float → State
+written s r x = cond (eqb r 14) (record { readings = s .readings; flag = bitAnd (s .flag) (flagWhole x); snapshot = s .snapshot }) s
+
+unfoldable pub stateBy : State → Frame → State
+stateBy s (Refused n) = s
+stateBy s (Read r) = s
+stateBy s (Write r x) = written s r x
+stateBy s (Act r) = acted s r
+
+-- can a frame change the state? One that cannot leaves it as it is (`state-unchanged`, `proofs/Unchanged.antt`).
+unfoldable pub changesState : Frame → Bool
+changesState (Refused n) = false
+changesState (Read r) = false
+changesState (Write r x) = eqb r 14
+changesState (Act r) = true

@@ -1,10 +1,18 @@
 // A reading joins (01, "The reading"): its filtered input and values, PEAK and TROF, and its STAT bits in FLAG.
 ghost use mathlib.Core.Path.{_≡_};
-ghost use Rattle.state.specs.Reading.{outside, badReading, larger, smaller, peakAfter, trofAfter, joined, taken, TakeInput};
+ghost use Rattle.figures.specs.Acceptable.{TemperatureAcceptable};
+ghost use Rattle.compensation.specs.Filter.{FilterInput};
+ghost use Rattle.compensation.specs.Values.{StepsInput};
+ghost use Rattle.state.specs.Reading.{outside, badReading, larger, smaller, peakAfter, trofAfter, joined, inputAfter, takenAt};
 use crate::Readings;
 use crate::State;
+use compensation::Input;
 use compensation::Values;
-use figures::Calibration;
+use figures::Cell;
+use figures::Filter;
+use figures::Linearity;
+use figures::System;
+use figures::Temperature;
 
 fn is_outside(least: i64, most: i64, v: i64) -> bool
     ensures { λ r. ⌜ r ≡ outside least most v ⌝ }
@@ -79,15 +87,36 @@ fn join(r: Readings, elec: i64, temp: i64, v: Values) -> Readings
     }
 }
 
-// A reading that is not a bad one, taken in by the figures in force.
-pub fn take(figures: Calibration, state: State, elec: i64, temp: i64, integrity: u8) -> State
-    requires { ⌜ TakeInput figures state elec ⌝ }
-    ensures { λ n. ⌜ n ≡ taken figures state elec temp integrity ⌝ }
+// Steps 1 and 2 of a reading that is not a bad one, after the readings before it.
+pub fn input_of(
+    filter: Filter,
+    temperature: Temperature,
+    before: Readings,
+    elec: i64,
+    temp: i64,
+) -> Input
+    requires { ⌜ FilterInput filter (before .elec) elec ⌝ }
+    requires { ⌜ TemperatureAcceptable temperature ⌝ }
+    ensures { λ r. ⌜ r ≡ inputAfter filter temperature before elec temp ⌝ }
 {
-    let before = state.readings;
-    let held = compensation::filter_input(figures.filter, !before.any, before.elec, elec);
-    let values = compensation::compensate(figures, held, temp, integrity);
-    let readings = join(before, held, temp, values);
+    compensation::input_of(filter, temperature, !before.any, before.elec, elec, temp)
+}
+
+// The other steps of it, and what the reading makes of the state, by the parts of the figures in force that they need.
+pub fn take(
+    cell: Cell,
+    linearity: Linearity,
+    system: System,
+    state: State,
+    input: Input,
+    temp: i64,
+    integrity: u8,
+) -> State
+    requires { ⌜ StepsInput cell linearity system input ⌝ }
+    ensures { λ n. ⌜ n ≡ takenAt cell linearity system state input temp integrity ⌝ }
+{
+    let values = compensation::compensate(cell, linearity, system, input, temp, integrity);
+    let readings = join(state.readings, input.elec, temp, values);
     let mut next = state;
     next.readings = readings;
     next.flag = state.flag | values.stat;

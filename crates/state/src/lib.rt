@@ -1,4 +1,4 @@
-// What a device keeps, and what a reading, a report and a frame's request make of it (01, "The reading", "The bus"). The device
+// What a device keeps, and what a reading, a report and a frame make of it (01, "The reading", "The bus"). The device
 // itself and the entries that are open to callers stand in `converter`, above.
 mod joining;
 mod registers;
@@ -8,16 +8,16 @@ mod requests;
 use compensation::Values;
 use figures::Calibration;
 pub use joining::bad_reading;
+pub use joining::input_of;
 pub use joining::take;
 pub use registers::Answer;
 pub use registers::answer_to;
 pub use reporting::Report;
 pub use reporting::Reported;
 pub use reporting::report_of;
-pub use requests::Request;
 pub use requests::changes_state;
+pub use requests::changes_zero;
 pub use requests::fresh;
-pub use requests::request_of;
 pub use requests::setup_after;
 pub use requests::state_after;
 pub use requests::zero_after;

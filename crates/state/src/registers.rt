@@ -1,13 +1,13 @@
-// What a request is answered with, and the registers as they read (01, "The bus").
+// What a frame is answered with, and the registers as they read (01, "The bus").
 ghost use mathlib.Core.Path.{_≡_};
 ghost use Rattle.state.specs.Register.{stepsAt, readingFloat, readingAt, registerAt, onReading, answered, ReadingsWithin, StateWithin};
 use crate::Readings;
-use crate::Request;
 use crate::State;
 use binary32::sent::float_of_steps;
 use binary32::sent::float_of_whole;
+use modbus::frame::Frame;
 
-// A value to send; done, and no value to send; or the number that the request is turned down with.
+// A value to send; done, and no value to send; or the number that the frame is turned down with.
 pub enum Answer {
     Value(f32),
     Done,
@@ -86,15 +86,20 @@ fn on_reading(state: State) -> Answer
     Answer::Refused(10)
 }
 
-pub fn answer_to(state: State, sz: i64, request: Request) -> Answer
+// RST (100) is done at any time, SNAP and peak reset after a reading.
+pub fn answer_to(state: State, sz: i64, frame: Frame) -> Answer
     requires { ⌜ StateWithin state sz ⌝ }
-    ensures { λ a. ⌜ a ≡ answered state sz request ⌝ }
+    ensures { λ a. ⌜ a ≡ answered state sz frame ⌝ }
 {
-    match request {
-        Request::Refuse(number) => Answer::Refused(number),
-        Request::Show(register) => register_at(state, sz, register),
-        Request::Snap => on_reading(state),
-        Request::PeakReset => on_reading(state),
-        _ => Answer::Done,
+    match frame {
+        Frame::Refused(number) => Answer::Refused(number),
+        Frame::Read(register) => register_at(state, sz, register),
+        Frame::Act(register) => {
+            if register == 100 {
+                return Answer::Done;
+            }
+            on_reading(state)
+        }
+        Frame::Write(_, _) => Answer::Done,
     }
 }

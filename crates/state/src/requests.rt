@@ -1,48 +1,12 @@
-// What a frame asks of a device, and what becomes of the device (01, "The bus"). Bytes and numbers are judged before (`modbus`).
+// What a frame makes of a device (01, "The bus"). Its bytes are judged before (`modbus`).
 ghost use mathlib.Core.Path.{_≡_};
-ghost use Rattle.state.specs.Request.{requested, fresh as freshState, zeroBy, setupBy, changesState, stateBy, snapped, peaksReset};
+ghost use Rattle.state.specs.Request.{fresh as freshState, zeroBy, changesZero, setupBy, changesState, stateBy, snapped, peaksReset, acted, written};
 use crate::Readings;
 use crate::Setup;
 use crate::Snapshot;
 use crate::State;
 use compensation::Values;
 use modbus::frame::Frame;
-
-// Refuse with a number; show a register; clear the FLAG bits that the number lacks; SZ in steps; the three actions.
-pub enum Request {
-    Refuse(u8),
-    Show(u16),
-    Flag(u16),
-    Zero(i64),
-    Rst,
-    Snap,
-    PeakReset,
-}
-
-// A judged frame writes FLAG (14) or SZ, and acts on RST (100), SNAP (103) or peak reset.
-pub fn request_of(frame: Frame) -> Request
-    ensures { λ r. ⌜ r ≡ requested frame ⌝ }
-{
-    match frame {
-        Frame::Refused(number) => Request::Refuse(number),
-        Frame::Read(register) => Request::Show(register),
-        Frame::Write(register, x) => {
-            if register == 14 {
-                return Request::Flag(binary32::received::flag_whole(x));
-            }
-            Request::Zero(binary32::received::zero_steps(x))
-        }
-        Frame::Act(register) => {
-            if register == 100 {
-                return Request::Rst;
-            }
-            if register == 103 {
-                return Request::Snap;
-            }
-            Request::PeakReset
-        }
-    }
-}
 
 // A start, or RST: no reading, no snapshot, and FLAG says REBOOT.
 pub fn fresh() -> State
@@ -106,52 +70,85 @@ fn reset_peaks(state: State) -> State
     next
 }
 
-// What a request makes of all but the figures in force.
-pub fn state_after(state: State, request: Request) -> State
-    ensures { λ n. ⌜ n ≡ stateBy state request ⌝ }
+// RST (100), SNAP (103) or peak reset.
+fn act(state: State, register: u16) -> State
+    ensures { λ n. ⌜ n ≡ acted state register ⌝ }
 {
-    match request {
-        Request::Flag(kept) => {
-            let mut next = state;
-            next.flag = state.flag & kept;
-            next
-        }
-        Request::Rst => fresh(),
-        Request::Snap => snap(state),
-        Request::PeakReset => reset_peaks(state),
+    if register == 100 {
+        return fresh();
+    }
+    if register == 103 {
+        return snap(state);
+    }
+    reset_peaks(state)
+}
+
+// FLAG (14) keeps the bits that are written; SZ is none of the state.
+fn write(state: State, register: u16, x: f32) -> State
+    ensures { λ n. ⌜ n ≡ written state register x ⌝ }
+{
+    if register != 14 {
+        return state;
+    }
+    let mut next = state;
+    next.flag = state.flag & binary32::received::flag_whole(x);
+    next
+}
+
+// What a frame makes of all but the figures in force.
+pub fn state_after(state: State, frame: Frame) -> State
+    ensures { λ n. ⌜ n ≡ stateBy state frame ⌝ }
+{
+    match frame {
+        Frame::Write(register, x) => write(state, register, x),
+        Frame::Act(register) => act(state, register),
         _ => state,
     }
 }
 
 // Can it change anything but the figures in force? A record that is kept in place is written only then.
-pub fn changes_state(request: Request) -> bool
-    ensures { λ r. ⌜ r ≡ changesState request ⌝ }
+pub fn changes_state(frame: Frame) -> bool
+    ensures { λ r. ⌜ r ≡ changesState frame ⌝ }
 {
-    match request {
-        Request::Refuse(_) => false,
-        Request::Show(_) => false,
-        Request::Zero(_) => false,
-        _ => true,
+    match frame {
+        Frame::Write(register, _) => register == 14,
+        Frame::Act(_) => true,
+        _ => false,
     }
 }
 
-// SZ after it.
-pub fn zero_after(sz: i64, request: Request) -> i64
-    ensures { λ r. ⌜ r ≡ zeroBy sz request ⌝ }
+// Can it change SZ?
+pub fn changes_zero(frame: Frame) -> bool
+    ensures { λ r. ⌜ r ≡ changesZero frame ⌝ }
 {
-    match request {
-        Request::Zero(steps) => steps,
+    match frame {
+        Frame::Write(register, _) => register != 14,
+        _ => false,
+    }
+}
+
+// SZ after it: a judged frame writes FLAG (14) or SZ.
+pub fn zero_after(sz: i64, frame: Frame) -> i64
+    ensures { λ r. ⌜ r ≡ zeroBy sz frame ⌝ }
+{
+    match frame {
+        Frame::Write(register, x) => {
+            if register == 14 {
+                return sz;
+            }
+            binary32::received::zero_steps(x)
+        }
         _ => sz,
     }
 }
 
 // The figures in force after it.
-pub fn setup_after(setup: Setup, request: Request) -> Setup
-    ensures { λ n. ⌜ n ≡ setupBy setup request ⌝ }
+pub fn setup_after(setup: Setup, frame: Frame) -> Setup
+    ensures { λ n. ⌜ n ≡ setupBy setup frame ⌝ }
 {
     let mut figures = setup.figures;
     let mut system = figures.system;
-    system.sz = zero_after(system.sz, request);
+    system.sz = zero_after(system.sz, frame);
     figures.system = system;
     let mut next = setup;
     next.figures = figures;

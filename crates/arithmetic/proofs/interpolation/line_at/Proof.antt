@@ -30,7 +30,7 @@ sub-round-div-3 c = fits (search i64s depth 9) tt
 round-div-requires : tie.Need-round-div-requires
 round-div-requires c κs =
     let t = t-in c in
-    (lt-plain (search i64s) (search i64s depth 9) tt (gap-pos (<ℤ-≤ℤ-trans (c .pre .after) (c .pre .upto))), small (search i64s depth 12) tt)
+    (small (search i64s depth 12) tt, (lt-plain (search i64s) (search i64s depth 9) tt (gap-pos (<ℤ-≤ℤ-trans (c .pre .after) (c .pre .upto))), small (search i64s depth 12) tt))
 
 rise : tie.Start → ℤ
 rise c = roundDiv ((c .args .v2 -ℤ c .args .v1) *ℤ (c .args .t -ℤ c .args .t1)) (c .args .t2 -ℤ c .args .t1)

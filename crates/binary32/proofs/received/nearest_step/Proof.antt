@@ -8,7 +8,8 @@ use lib.IntN.{+ℤ-idl}
 use lib.Ieee.{binary32, fits}
 use mir.Syntax.{w64}
 use mir.ValLaws.{toZ-ofZ}
-use Rattle.binary32.proofs.Steps.{no-nan, bits-lt, e-top, zero-is, units-held, units-fit, turned-fit, positive, negative}
+use Rattle.integers.proofs.Magnitude.{within-neg}
+use Rattle.binary32.proofs.Steps.{no-nan, bits-lt, e-top, zero-is, units-held, units-fit, turned-fit, units-in, positive, negative}
 use Rattle.binary32.proofs.received.nearest_step.Statement.{statement}
 use Rattle.binary32.proofs.received.nearest_step.Tie as tie
 
@@ -35,7 +36,9 @@ cast-units : tie.Need-cast-units
 cast-units c = units-fit (c .before .args .x) (held (c .before)) (c .before .pre)
 
 round-div-requires : tie.Need-round-div-requires
-round-div-requires c κs = search needs
+round-div-requires c κs =
+    let s = c .before .before in
+    (rw (units-held (s .args .x) (held s) (s .pre)) (units-in (s .args .x) (held s) (s .pre)), search needs)
 
 returns-2 : tie.Need-returns-2
 returns-2 c =
@@ -50,7 +53,10 @@ sub-round-div c =
     rw (units-held (s .args .x) (held s) (s .pre)) (turned-fit (s .args .x) (held s) (s .pre))
 
 round-div-requires-2 : tie.Need-round-div-requires-2
-round-div-requires-2 c κs = search needs
+round-div-requires-2 c κs =
+    let s = c .before .before in
+    let t = turned-fit (s .args .x) (held s) (s .pre) in
+    (rw (units-held (s .args .x) (held s) (s .pre), toZ-ofZ w64 _ t, +ℤ-idl) (within-neg (units-in (s .args .x) (held s) (s .pre))), search needs)
 
 returns-3 : tie.Need-returns-3
 returns-3 c =

@@ -95,7 +95,8 @@ unfolding start
 round-div-requires c κs =
     let s = c .before .before .before .before .before .before .before in
     let h = steps-in s in
-    (lt-plain (search i64s) (search i64s) tt (steps-pos c), small (search i64s) tt)
+    let p = s .pre in
+    (small (search i64s depth 9) tt, (lt-plain (search i64s) (search i64s) tt (steps-pos c), small (search i64s) tt))
 
 -- the sum: it is the rule's, and so within the range of the inputs
 module _ (c : tie.After-round-div) where

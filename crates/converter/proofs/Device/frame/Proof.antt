@@ -1,4 +1,4 @@
--- `converter::Device::frame` meets its contract: what is asked is answered, replied and obeyed. Assumes nothing.
+-- `converter::Device::frame` meets its contract: what is judged is answered, replied and obeyed. Assumes nothing.
 use mathlib.Core.Path.{refl, sym}
 use denote.Ref.{now}
 use borrow.Author.Needs.{needs}
@@ -9,8 +9,8 @@ use Rattle.converter.proofs.Entries.{serves}
 use Rattle.converter.proofs.Device.frame.Statement.{statement}
 use Rattle.converter.proofs.Device.frame.Tie as tie
 
-asked-requires : tie.Need-asked-requires
-asked-requires c κs = search needs
+judge-requires : tie.Need-judge-requires
+judge-requires c κs = search needs
 
 answer-requires : tie.Need-answer-requires
 answer-requires c κs =
@@ -31,7 +31,7 @@ returns c =
     let a = c .before .before .before .before in
     let q = a .before .before .before in
     let s = q .before .before .before .before .before .before in
-    serves (s .pre) (now (s .args .frame)) (now (s .args .reply)) _ (q .asked .ensures) (rw (kept (state-within (reached-sound (s .pre)) .sz-in)) at (a .answer .ensures)) (c .before .setup-after .ensures) (c .state-after .ensures)
+    serves (s .pre) (now (s .args .frame)) (now (s .args .reply)) _ (q .judge .ensures) (rw (kept (state-within (reached-sound (s .pre)) .sz-in)) at (a .answer .ensures)) (c .before .setup-after .ensures) (c .state-after .ensures)
 
 pub frame-spec : {M : Type 1} → statement M
-frame-spec = tie.close (tie.spec asked-requires answer-requires setup-after-requires state-after-requires same-length returns)
+frame-spec = tie.close (tie.spec judge-requires answer-requires setup-after-requires state-after-requires same-length returns)

@@ -1,41 +1,48 @@
--- `state::requests::zero_after` meets its contract: only a request for SZ changes it. Assumes nothing.
-use mathlib.Core.Path.{_≡_, refl}
+-- `state::requests::zero_after` meets its contract: only a frame for SZ changes it. Assumes nothing.
+use mathlib.Core.Path.{_≡_}
 use mathlib.Core.List.{[], _∷_}
+use borrow.Author.Tests.{eq-eqb, ne-eqb}
 use lib.IntN.{ℤ}
 use types.Run.{OneOf, miss}
 use denote.Enum.Declared.{tagOf}
 use mir.Syntax.{w64}
 use mir.ValLaws.{toZ-ofZ}
 use Rattle.integers.proofs.Machine.{held}
-use Rattle.state.specs.declared.requests.Request.{Request}
-use Rattle.state.specs.declared.requests.Request.the-variants.{Refuse, Show, Flag, Zero, Rst, Snap, PeakReset}
+use Rattle.modbus.specs.declared.frame.Frame.{Frame}
+use Rattle.modbus.specs.declared.frame.Frame.the-variants.{Refused, Read, Write, Act}
+use Rattle.modbus.proofs.frame.Frame as F
 use Rattle.state.specs.Request.{zeroBy}
-use Rattle.state.proofs.requests.Request as R
 use Rattle.state.proofs.requests.zero_after.Statement.{statement}
 use Rattle.state.proofs.requests.zero_after.Tie as tie
 
-zeroed : (sz : ℤ) {q : Request} {y z : ℤ} → q ≡ Zero z → y ≡ z → y ≡ zeroBy sz q
-unfolding zeroBy
-zeroed sz e p = rw (e, p)
+by-case : {y : ℤ} (sz : ℤ) {f g : Frame} → f ≡ g → y ≡ zeroBy sz g → y ≡ zeroBy sz f
+by-case sz e h = rw e h
 
-others : {y : ℤ} (sz : ℤ) (q : Request) → OneOf (0 ∷ 1 ∷ 2 ∷ 4 ∷ 5 ∷ 6 ∷ []) (tagOf R.the-type q) → y ≡ sz → y ≡ zeroBy sz q
+others : {y : ℤ} (sz : ℤ) (f : Frame) → OneOf (0 ∷ 1 ∷ 3 ∷ []) (tagOf F.the-type f) → y ≡ sz → y ≡ zeroBy sz f
 unfolding zeroBy
-others sz (Refuse n) h e = e
-others sz (Show r) h e = e
-others sz (Flag kept) h e = e
-others sz (Zero z) h e = absurd (miss (0 ∷ 1 ∷ 2 ∷ 4 ∷ 5 ∷ 6 ∷ []) 3 tt h)
-others sz Rst h e = e
-others sz Snap h e = e
-others sz PeakReset h e = e
+others sz (Refused n) h e = e
+others sz (Read r) h e = e
+others sz (Write r x) h e = absurd (miss (0 ∷ 1 ∷ 3 ∷ []) 2 tt h)
+others sz (Act r) h e = e
 
-enum-known-request : tie.Need-enum-known-request
-enum-known-request c = c .match .keys1
+enum-known-frame : tie.Need-enum-known-frame
+enum-known-frame c = c .match .keys1
 
 returns : tie.Need-returns
-returns c = zeroed (c .before .before .before .args .sz) (c .before .request .given .1) (held (c .known-told .given .0 .1) refl)
+unfolding zeroBy
+returns c =
+    let s = c .before .before .before .before in
+    by-case (s .args .sz) (c .before .before .frame .given .1) (simp (eq-eqb _ _ (c .if1 .taken)) (toZ-ofZ w64 _ (s .fits .sz)))
+
+zero-steps-requires : tie.Need-zero-steps-requires
+zero-steps-requires c κs = tt
 
 returns-2 : tie.Need-returns-2
-returns-2 c = others (c .before .args .sz) (c .before .args .request) (c .match .keys2) (toZ-ofZ w64 _ (c .before .fits .sz))
+unfolding zeroBy
+returns-2 c = by-case _ (c .before .before .before .frame .given .1) (simp (ne-eqb _ _ (c .before .if1 .left)) (held (c .zero-steps .ok) (c .zero-steps .ensures)))
+
+returns-3 : tie.Need-returns-3
+returns-3 c = others (c .before .args .sz) (c .before .args .frame) (c .match .keys2) (toZ-ofZ w64 _ (c .before .fits .sz))
 
 pub zero-after-spec : {M : Type 1} → statement M
-zero-after-spec = tie.close (tie.spec enum-known-request returns returns-2)
+zero-after-spec = tie.close (tie.spec enum-known-frame returns zero-steps-requires returns-2 returns-3)

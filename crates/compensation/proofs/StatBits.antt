@@ -1,0 +1,104 @@
+-- STAT's bits as the code finds them: none where the inputs are within their ranges, and those of a raw value from what it was
+-- held at. Assumes nothing.
+use mathlib.Core.Path.{_≡_, refl, sym, _∙_, ap}
+use mathlib.Core.Bool.{Bool, true, false, _&&_}
+use Prim.Native.Nat.{ℕ, zero, suc, _/_, _%_, _<_}
+use native.Mathlib.Omega.{arith}
+use lib.Arith.{bin-ind}
+use lib.Bits.{bitOr, or-zero-l, or-zero-r, or-comm, or-shr, or-mod}
+use lib.Dec.{eqb}
+use lib.IntN.{ℤ}
+use lib.Signed.{ltZ, leZ, _<ℤ_, leZ-yes}
+use Rattle.integers.proofs.Parts.{ints}
+use Rattle.integers.proofs.Order.{is-true, lt-yes, no-lt}
+use Rattle.integers.proofs.Machine.{and-left, and-right}
+use Rattle.figures.specs.declared.Cell.{Cell}
+use Rattle.figures.specs.declared.System.{System}
+use Rattle.compensation.specs.Hold.{hold}
+use Rattle.compensation.specs.Stat.{weigh, range, tempUnder, tempOver, elecUnder, elecOver, statOf, inputBits, HeldBits}
+
+-- ---- the inputs
+
+pub inside-none : (lo hi x : ℤ) (under over : ℕ) → (leZ lo x && leZ x hi) ≡ true → range lo hi x under over ≡ 0
+inside-none lo hi x under over e =
+    let below : ltZ x lo ≡ false = no-lt {a = x} {b = lo} (leZ-yes (and-left (leZ lo x) (leZ x hi) (is-true e))) in
+    let above : ltZ hi x ≡ false = no-lt {a = hi} {b = x} (leZ-yes (and-right (leZ lo x) (leZ x hi) (is-true e))) in
+    rw (below, above)
+
+-- ---- a raw value x that was held at h: unmoved, moved up, moved down
+
+module _ {x h : ℤ} (under over : ℕ) where
+  pub unmoved-none : x ≡ h → HeldBits x h under over 0
+  unfolding hold
+  unmoved-none e lo hi l k = by (ltZ x lo) (ltZ hi x) refl refl
+    where
+      by : (a b : Bool) → ltZ x lo ≡ a → ltZ hi x ≡ b → 0 ≡ bitOr (weigh a under) (weigh b over)
+      by false false p q = refl
+      by true b p q =
+          let below : x <ℤ lo = lt-yes p in
+          let at-lo : h ≡ lo = rw p at k in
+          absurd (omega ints)
+      by false true p q =
+          let above : hi <ℤ x = lt-yes q in
+          let at-hi : h ≡ hi = rw (p, q) at k in
+          absurd (omega ints)
+
+  pub raised-under : x <ℤ h → HeldBits x h under over under
+  unfolding hold
+  raised-under e lo hi l k = by (ltZ x lo) (ltZ hi x) refl refl
+    where
+      by : (a b : Bool) → ltZ x lo ≡ a → ltZ hi x ≡ b → under ≡ bitOr (weigh a under) (weigh b over)
+      by true false p q = sym (or-zero-r under)
+      by true true p q =
+          let below : x <ℤ lo = lt-yes p in
+          let above : hi <ℤ x = lt-yes q in
+          absurd (omega ints)
+      by false true p q =
+          let above : hi <ℤ x = lt-yes q in
+          let at-hi : h ≡ hi = rw (p, q) at k in
+          absurd (omega ints)
+      by false false p q = let there : h ≡ x = rw (p, q) at k in absurd (omega ints)
+
+  pub lowered-over : h <ℤ x → HeldBits x h under over over
+  unfolding hold
+  lowered-over e lo hi l k = by (ltZ x lo) (ltZ hi x) refl refl
+    where
+      by : (a b : Bool) → ltZ x lo ≡ a → ltZ hi x ≡ b → over ≡ bitOr (weigh a under) (weigh b over)
+      by true b p q =
+          let below : x <ℤ lo = lt-yes p in
+          let at-lo : h ≡ lo = rw p at k in
+          absurd (omega ints)
+      by false true p q = refl
+      by false false p q = let there : h ≡ x = rw (p, q) at k in absurd (omega ints)
+
+-- ---- the order in which the bits are joined
+
+digits : (x y z : ℕ) → x < 2 → y < 2 → z < 2 → bitOr (bitOr x y) z ≡ bitOr x (bitOr y z)
+digits zero y z a b c = refl
+digits (suc zero) zero z a b c = refl
+digits (suc zero) (suc zero) zero a b c = refl
+digits (suc zero) (suc zero) (suc zero) a b c = refl
+digits (suc zero) (suc zero) (suc (suc z)) a b c = absurd (omega arith)
+digits (suc zero) (suc (suc y)) z a b c = absurd (omega arith)
+digits (suc (suc x)) y z a b c = absurd (omega arith)
+
+by-digits : (m n : ℕ) → m / 2 ≡ n / 2 → m % 2 ≡ n % 2 → m ≡ n
+by-digits m n h k = omega arith
+
+or-assoc : (a b c : ℕ) → bitOr (bitOr a b) c ≡ bitOr a (bitOr b c)
+or-assoc a =
+    bin-ind (λ (n : ℕ). (b c : ℕ) → bitOr (bitOr n b) c ≡ bitOr n (bitOr b c))
+    (λ b c. ap (λ (k : ℕ). bitOr k c) (or-zero-l b) ∙ sym (or-zero-l (bitOr b c)))
+    (λ n ih b c. by-digits (bitOr (bitOr n b) c) (bitOr n (bitOr b c))
+    (or-shr (bitOr n b) c 1 ∙ ap (λ (k : ℕ). bitOr k (c / 2)) (or-shr n b 1) ∙ ih (b / 2) (c / 2) ∙ sym (or-shr n (bitOr b c) 1 ∙ ap (bitOr (n / 2)) (or-shr b c 1)))
+    (or-mod (bitOr n b) c 1 ∙ ap (λ (k : ℕ). bitOr k (c % 2)) (or-mod n b 1) ∙ digits (n % 2) (b % 2) (c % 2) (omega arith) (omega arith) (omega arith) ∙ sym (or-mod n (bitOr b c) 1 ∙ ap (bitOr (n % 2)) (or-mod b c 1))))
+    a
+
+pub stat-joined : (c : Cell) (s : System) (elec temp cell system : ℤ) (integrity : ℕ)
+    → bitOr (inputBits elec temp integrity) (bitOr (range (c .cmin) (c .cmax) cell 64 128) (range (s .smin) (s .smax) system 256 512)) ≡ statOf c s elec temp cell system integrity
+unfolding inputBits statOf
+stat-joined c s elec temp cell system integrity =
+    by (range tempUnder tempOver temp 4 8) (range elecUnder elecOver elec 16 32) (weigh (eqb integrity 1) 2048) (range (c .cmin) (c .cmax) cell 64 128) (range (s .smin) (s .smax) system 256 512)
+  where
+    by : (t e f c s : ℕ) → bitOr (bitOr t (bitOr e f)) (bitOr c s) ≡ bitOr t (bitOr e (bitOr c (bitOr s f)))
+    by t e f c s = or-assoc t (bitOr e f) (bitOr c s) ∙ ap (bitOr t) (or-assoc e f (bitOr c s) ∙ ap (bitOr e) (or-comm f (bitOr c s) ∙ or-assoc c s f))

@@ -1,0 +1,29 @@
+-- `state::requests::write` meets its contract, by its test. Assumes nothing.
+use mathlib.Core.Path.{_≡_}
+use Prim.Native.Nat.{ℕ}
+use borrow.Author.Tests.{eq-eqb, ne-eqb}
+use lib.Bits.{bitAnd}
+use lib.Ieee.{Float}
+use Rattle.binary32.specs.Received.{flagWhole}
+use Rattle.state.specs.declared.State.{State}
+use Rattle.state.specs.Request.{written}
+use Rattle.state.proofs.requests.write.Statement.{statement}
+use Rattle.state.proofs.requests.write.Tie as tie
+
+cleared : (s : State) (r : ℕ) (x : Float) {kept : ℕ} → r ≡ 14 → kept ≡ flagWhole x
+    → record { readings = s .readings; flag = bitAnd (s .flag) kept; snapshot = s .snapshot } ≡ written s r x
+unfolding written
+cleared s r x e k = rw (eq-eqb r 14 e, k)
+
+returns : tie.Need-returns
+unfolding written
+returns c = simp (ne-eqb _ _ (c .if1 .taken))
+
+flag-whole-requires : tie.Need-flag-whole-requires
+flag-whole-requires c κs = tt
+
+returns-2 : tie.Need-returns-2
+returns-2 c = let s = c .before .before .before in cleared (s .args .state) (s .args .register) (s .args .x) (c .before .before .if1 .left) (c .before .flag-whole .ensures)
+
+pub write-spec : {M : Type 1} → statement M
+write-spec = tie.close (tie.spec returns flag-whole-requires returns-2)
