@@ -4,3 +4,4 @@ mod Record
 mod Outcome
 mod Call
 mod Locals
+mod Walk
