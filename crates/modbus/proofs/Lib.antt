@@ -1,6 +1,8 @@
 pub mod Xor
 pub mod Shifts
-pub mod Sixteen
+pub mod Linear
+pub mod AtOnce
+pub mod Bytes
 pub mod Registers
 pub mod Replies
 pub mod Judged

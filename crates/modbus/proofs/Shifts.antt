@@ -1,14 +1,14 @@
--- Shifts of an exclusive or are the exclusive or of the shifts, and what stands above the k lowest bits only moves down by k of them. So two
--- bytes are taken in by sixteen shifts of one number. Assumes nothing.
+-- Shifts of an exclusive or are the exclusive or of the shifts, and what stands above the k lowest bits only moves down by k of them. So what
+-- is taken in after a byte may stand above it. Assumes nothing.
 use mathlib.Core.Path.{_≡_, refl, sym, ap, ap₂, _∙_}
 use mathlib.Core.Bool.{cond}
 use Prim.Native.Nat.{ℕ, zero, suc, _+_, _*_, _/_, _%_, _^_, _<_}
-use native.Mathlib.Nat.{mul-one, div-add-mod', div-eq-of-lt}
+use native.Mathlib.Nat.{add-comm, zero-add, suc-add, mul-one, div-add-mod', div-eq-of-lt}
 use native.Mathlib.Omega.{arith}
-use lib.Bits.{bitXor, xor-zero-r, xor-comm, xor-shr, xor-mod, xor-shifted, shifted-half, shifted-even}
+use lib.Bits.{bitXor, xor-zero-r, xor-comm, xor-lt, xor-shr, xor-mod, xor-shifted, shifted-half, shifted-even}
 use lib.Dec.{eqb}
 use Rattle.modbus.specs.Checksum.{shifted, shifts, taken}
-use Rattle.modbus.proofs.Xor.{xor-assoc, xor-swap, xor-digits}
+use Rattle.modbus.proofs.Xor.{xor-assoc, xor-swap, xor-digits, xor-zero}
 
 -- the bit that drops out, as a factor
 shifted-is : (c : ℕ) → shifted c ≡ bitXor (c / 2) (c % 2 * 0xA001)
@@ -43,26 +43,47 @@ shifts-above (suc k) h =
 shifts-beside : (k h y : ℕ) → shifts k (bitXor (h * 2 ^ k) y) ≡ bitXor h (shifts k y)
 shifts-beside k h y = shifts-xor k (h * 2 ^ k) y ∙ ap (λ (i : ℕ). bitXor i (shifts k y)) (shifts-above k h)
 
-twice-eight : (x : ℕ) → shifts 16 x ≡ shifts 8 (shifts 8 x)
+shifts-add : (j k x : ℕ) → shifts (j + k) x ≡ shifts k (shifts j x)
 unfolding shifts
-twice-eight x = refl
+shifts-add zero k x = ap (λ (n : ℕ). shifts n x) (zero-add k)
+shifts-add (suc j) k x = ap (λ (n : ℕ). shifts n x) (suc-add j k) ∙ shifts-add j k (shifted x)
 
-pub byte-above : (h : ℕ) → shifts 16 (h * 256) ≡ shifts 8 h
-byte-above h = twice-eight (h * 256) ∙ ap (shifts 8) (shifts-above 8 h)
+pub shifts-up : (j k y : ℕ) → shifts (j + k) (y * 2 ^ j) ≡ shifts k y
+shifts-up j k y = shifts-add j k (y * 2 ^ j) ∙ ap (shifts k) (shifts-above j y)
 
 -- one byte: the high one moves down, beside what eight shifts make of the low one
-pub by-byte : (c b : ℕ) → b < 256 → bitXor (shifts 16 (bitXor c b % 256 * 256)) (c / 256) ≡ taken c b
-unfolding taken
+pub by-byte : (c b : ℕ) → b < 256 → bitXor (shifts 16 (bitXor c b % 256 * 256)) (c / 256) ≡ shifts 8 (bitXor c b)
 by-byte c b h =
     let x = bitXor c b in
     let high : x / 256 ≡ c / 256 = xor-shr c b 8 ∙ ap (bitXor (c / 256)) (div-eq-of-lt h) ∙ xor-zero-r (c / 256) in
     let whole : bitXor (x / 256 * 2 ^ 8) (x % 256) ≡ x = xor-shifted (x / 256) 8 (x % 256) (omega arith) ∙ div-add-mod' x 256 in
-    xor-comm (shifts 16 (x % 256 * 256)) (c / 256) ∙ ap₂ bitXor (sym high) (byte-above (x % 256)) ∙ sym (shifts-beside 8 (x / 256) (x % 256)) ∙ ap (shifts 8) whole
+    xor-comm (shifts 16 (x % 256 * 256)) (c / 256) ∙ ap₂ bitXor (sym high) (shifts-up 8 8 (x % 256)) ∙ sym (shifts-beside 8 (x / 256) (x % 256)) ∙ ap (shifts 8) whole
 
--- two bytes: the second, shifted out after the first, stands above it
-pub by-two : (c a b : ℕ) → a < 256 → shifts 16 (bitXor c (b * 256 + a)) ≡ taken (taken c a) b
+-- what is taken in after a byte stands above it
+above-byte : (c b h : ℕ) → b < 256 → bitXor (h * 256) (bitXor c b) ≡ bitXor c (b + h * 256)
+above-byte c b h small =
+    sym (xor-assoc (h * 256) c b) ∙ ap (λ (i : ℕ). bitXor i b) (xor-comm (h * 256) c) ∙ xor-assoc c (h * 256) b ∙ ap (bitXor c) (xor-shifted h 8 b small ∙ add-comm (h * 256) b)
+
+pub by-one : (c b h k : ℕ) → b < 256 → shifts k (bitXor (taken c b) h) ≡ shifts (8 + k) (bitXor c (b + h * 256))
 unfolding taken
-by-two c a b h =
-    ap (shifts 16) (ap (bitXor c) (sym (xor-shifted b 8 a h)) ∙ sym (xor-assoc c (b * 256) a) ∙ ap (λ (i : ℕ). bitXor i a) (xor-comm c (b * 256)) ∙ xor-assoc (b * 256) c a)
-    ∙ twice-eight (bitXor (b * 256) (bitXor c a))
-    ∙ ap (shifts 8) (shifts-beside 8 b (bitXor c a) ∙ xor-comm b (shifts 8 (bitXor c a)))
+by-one c b h k small =
+    ap (shifts k) (xor-comm (shifts 8 (bitXor c b)) h ∙ sym (shifts-beside 8 h (bitXor c b)) ∙ ap (shifts 8) (above-byte c b h small))
+    ∙ sym (shifts-add 8 k (bitXor c (b + h * 256)))
+
+-- ---- sixteen bits stay sixteen bits, and are lost only where they are 0
+
+shifted-fits : (c : ℕ) → c < 65536 → shifted c < 65536
+shifted-fits c h = rw (shifted-is c) (xor-lt 16 (c / 2) (c % 2 * 0xA001) (omega arith) (omega arith))
+
+pub shifts-fit : (k c : ℕ) → c < 65536 → shifts k c < 65536
+unfolding shifts
+shifts-fit zero c h = h
+shifts-fit (suc k) c h = shifts-fit k (shifted c) (shifted-fits c h)
+
+shifted-zero : (c : ℕ) → c < 65536 → shifted c ≡ 0 → c ≡ 0
+shifted-zero c h e = omega (arith, xor-zero (c / 2) (c % 2 * 0xA001) (sym (shifted-is c) ∙ e))
+
+pub shifts-zero : (k c : ℕ) → c < 65536 → shifts k c ≡ 0 → c ≡ 0
+unfolding shifts
+shifts-zero zero c h e = e
+shifts-zero (suc k) c h e = shifted-zero c h (shifts-zero k (shifted c) (shifted-fits c h) e)

@@ -36,3 +36,6 @@ xor-digits (suc zero) zero m a b = sym (ap (bitXor (1 * m)) (zero-mul m) ∙ xor
 xor-digits (suc zero) (suc zero) m a b = zero-mul m ∙ sym (xor-self (1 * m))
 xor-digits (suc zero) (suc (suc q)) m a b = absurd (omega arith)
 xor-digits (suc (suc p)) q m a b = absurd (omega arith)
+
+pub xor-zero : (a b : ℕ) → bitXor a b ≡ 0 → a ≡ b
+xor-zero a b e = sym (xor-zero-r a) ∙ ap (bitXor a) (sym (xor-self b)) ∙ sym (xor-assoc a b b) ∙ ap (λ (k : ℕ). bitXor k b) e ∙ xor-zero-l b

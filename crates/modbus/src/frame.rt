@@ -26,22 +26,26 @@ fn word(bytes: &[u8], at: usize) -> u16
 fn to_us(receiver: u8, function: u8, station: u8) -> bool
     ensures { λ r. ⌜ r ≡ toUs receiver function station ⌝ }
 {
-    if receiver == 0 {
-        return function != 3;
+    let no_read = function != 3;
+    if receiver != station {
+        if receiver != 0 {
+            return false;
+        }
+        return no_read;
     }
-    receiver == station
+    if receiver == 0 {
+        return no_read;
+    }
+    true
 }
 
-// Do the last two bytes hold the checksum of the others?
+// Do the last two bytes hold the checksum of the others? Then all of them together leave 0.
 fn checksum_right(frame: &[u8]) -> bool
     requires { ⌜ 4 ≤ length (now frame) ⌝ }
     ensures { λ r. ⌜ r ≡ checked (now (frame .entry)) ⌝ }
 {
     let n = frame.len();
-    let sum = crate::checksum::checksum(frame, n - 2);
-    let low = frame[n - 2] as u16;
-    let high = frame[n - 1] as u16;
-    sum == high * 256 + low
+    crate::checksum::checksum(frame, n) == 0
 }
 
 fn for_us(frame: &[u8], station: u8) -> bool

@@ -1,12 +1,24 @@
 -- `take_byte` meets its contract. Assumes nothing.
-use mathlib.Core.Path.{ap, _∙_}
+use mathlib.Core.Path.{_≡_, sym, ap, _∙_}
 use Prim.Native.Nat.{ℕ, _/_}
+use native.Mathlib.Nat.{add-zero}
 use native.Mathlib.Omega.{arith}
+use denote.Ref.{now}
 use lib.Bits.{bitXor}
+use lib.ListN.{take, drop}
+use Rattle.modbus.specs.Checksum.{shifts, number}
+use Rattle.modbus.specs.Frame.{byteAt}
 use Rattle.modbus.proofs.Shifts.{by-byte}
+use Rattle.modbus.proofs.Bytes.{number-at, run-at-once}
 use borrow.Author.Needs.{needs}
 use Rattle.modbus.proofs.checksum.take_byte.Statement.{statement}
 use Rattle.modbus.proofs.checksum.take_byte.Tie as tie
+
+shared-slice-read-low : tie.Need-shared-slice-read-low
+shared-slice-read-low c = search needs
+
+cast-low : tie.Need-cast-low
+cast-low c = omega (arith, c .shared-slice-known2 .given (c .before .before .args .i))
 
 mul-sixteen-shifts : tie.Need-mul-sixteen-shifts
 mul-sixteen-shifts c = search needs
@@ -16,8 +28,15 @@ sixteen-shifts-requires c κs = search needs
 
 returns : tie.Need-returns
 returns c =
-    let s = c .before .args in
-    ap (λ (x : ℕ). bitXor x (s .sum / 256)) (c .sixteen-shifts .ensures) ∙ by-byte (s .sum) (s .byte) (omega arith)
+    let a = c .before .before .before .args in
+    let s = now (a .bytes) in
+    let b = byteAt s (a .i) in
+    let one : number (take 1 (drop (a .i) s)) ≡ b = omega (arith, number-at s (a .i) 1, ap (byteAt s) (add-zero (a .i))) in
+    ap (λ (x : ℕ). bitXor x (a .sum / 256)) (c .sixteen-shifts .ensures) ∙ by-byte (a .sum) b (omega (arith, c .before .shared-slice-known2 .given (a .i)))
+    ∙ ap (λ (n : ℕ). shifts 8 (bitXor (a .sum) n)) (sym one)
+    ∙ sym (run-at-once s (a .i) (λ j. omega (arith, c .before .shared-slice-known2 .given j)) 1 (omega arith) (a .sum))
 
 pub take-byte-spec : {M : Type 1} → statement M
-take-byte-spec = tie.close (tie.spec mul-sixteen-shifts sixteen-shifts-requires returns)
+take-byte-spec =
+    tie.close
+    (tie.spec shared-slice-read-low cast-low mul-sixteen-shifts sixteen-shifts-requires returns)

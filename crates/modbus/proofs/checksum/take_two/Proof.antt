@@ -1,22 +1,60 @@
 -- `take_two` meets its contract. Assumes nothing.
-use mathlib.Core.Path.{_∙_}
+use mathlib.Core.Path.{_≡_, sym, ap, _∙_}
+use Prim.Native.Nat.{ℕ, _+_, _*_}
+use native.Mathlib.Nat.{add-zero}
 use native.Mathlib.Omega.{arith}
-use Rattle.modbus.proofs.Shifts.{by-two}
+use denote.Ref.{now}
+use lib.Bits.{bitXor}
+use lib.ListN.{take, drop}
+use Rattle.modbus.specs.Checksum.{shifts, number}
+use Rattle.modbus.specs.Frame.{byteAt}
+use Rattle.modbus.proofs.Bytes.{number-at, run-at-once}
 use borrow.Author.Needs.{needs}
 use Rattle.modbus.proofs.checksum.take_two.Statement.{statement}
 use Rattle.modbus.proofs.checksum.take_two.Tie as tie
 
-mul-sixteen-shifts : tie.Need-mul-sixteen-shifts
-mul-sixteen-shifts c = search needs
-
 add-sixteen-shifts : tie.Need-add-sixteen-shifts
 add-sixteen-shifts c = search needs
+
+shared-slice-read-sixteen-shifts : tie.Need-shared-slice-read-sixteen-shifts
+shared-slice-read-sixteen-shifts c = search needs
+
+cast-sixteen-shifts : tie.Need-cast-sixteen-shifts
+cast-sixteen-shifts c = omega (arith, c .shared-slice-known2 .given (c .before .before .args .i + 1))
+
+mul-sixteen-shifts : tie.Need-mul-sixteen-shifts
+mul-sixteen-shifts c = omega (arith, c .shared-slice-known2 .given (c .before .before .args .i + 1))
+
+shared-slice-read-sixteen-shifts-2 : tie.Need-shared-slice-read-sixteen-shifts-2
+shared-slice-read-sixteen-shifts-2 c = search needs
+
+cast-sixteen-shifts-2 : tie.Need-cast-sixteen-shifts-2
+cast-sixteen-shifts-2 c = omega (arith, c .shared-slice-known3 .given (c .before .before .before .args .i))
+
+add-sixteen-shifts-2 : tie.Need-add-sixteen-shifts-2
+add-sixteen-shifts-2 c = let i = c .before .before .before .args .i in omega (arith, c .shared-slice-known3 .given i, c .shared-slice-known3 .given (i + 1))
 
 sixteen-shifts-requires : tie.Need-sixteen-shifts-requires
 sixteen-shifts-requires c κs = search needs
 
 returns : tie.Need-returns
-returns c = let s = c .before .args in c .sixteen-shifts .ensures ∙ by-two (s .sum) (s .first) (s .second) (omega arith)
+returns c =
+    let a = c .before .before .before .before .args in
+    let s = now (a .bytes) in
+    let two : byteAt s (a .i + 1) * 256 + byteAt s (a .i) ≡ number (take 2 (drop (a .i) s)) = omega (arith, number-at s (a .i) 2, ap (byteAt s) (add-zero (a .i))) in
+    c .sixteen-shifts .ensures ∙ ap (λ (n : ℕ). shifts 16 (bitXor (a .sum) n)) two
+    ∙ sym (run-at-once s (a .i) (λ j. omega (arith, c .before .shared-slice-known3 .given j)) 2 (omega arith) (a .sum))
 
 pub take-two-spec : {M : Type 1} → statement M
-take-two-spec = tie.close (tie.spec mul-sixteen-shifts add-sixteen-shifts sixteen-shifts-requires returns)
+take-two-spec =
+    tie.close
+    (tie.spec
+    add-sixteen-shifts
+    shared-slice-read-sixteen-shifts
+    cast-sixteen-shifts
+    mul-sixteen-shifts
+    shared-slice-read-sixteen-shifts-2
+    cast-sixteen-shifts-2
+    add-sixteen-shifts-2
+    sixteen-shifts-requires
+    returns)

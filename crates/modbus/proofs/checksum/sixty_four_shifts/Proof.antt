@@ -1,0 +1,60 @@
+-- `sixty_four_shifts` meets its contract: the closed form is what sixty-four shifts give. Assumes nothing.
+use mathlib.Core.Path.{ap, _∙_}
+use Prim.Native.Nat.{ℕ, _*_, _%_, _^_, _<_}
+use native.Mathlib.Omega.{arith}
+use lib.Bits.{bitXor, xor-lt}
+use Rattle.modbus.proofs.Linear.{ones-within}
+use Rattle.modbus.proofs.AtOnce.{remainderOf, sixtyFour, upper-fits, remainder-fits, sixty-four-is}
+use borrow.Author.Needs.{needs}
+use Rattle.modbus.proofs.checksum.sixty_four_shifts.Statement.{statement}
+use Rattle.modbus.proofs.checksum.sixty_four_shifts.Tie as tie
+
+mul-upper : tie.Need-mul-upper
+mul-upper c = search needs
+
+mul-multiple : tie.Need-mul-multiple
+mul-multiple c = omega (arith, upper-fits (c .args .x) (omega arith))
+
+mul-folded : tie.Need-mul-folded
+mul-folded c = search needs
+
+mul-remainder : tie.Need-mul-remainder
+mul-remainder c = search needs
+
+mul-remainder-2 : tie.Need-mul-remainder-2
+mul-remainder-2 c = search needs
+
+cast-odd : tie.Need-cast-odd
+cast-odd c = search needs
+
+mul-result : tie.Need-mul-result
+mul-result c = omega (arith, remainder-fits (c .args .x) (omega arith))
+
+cast-result : tie.Need-cast-result
+cast-result c = omega (arith, remainder-fits (c .args .x) (omega arith))
+
+mul-result-2 : tie.Need-mul-result-2
+mul-result-2 c = search needs
+
+returns : tie.Need-returns
+unfolding sixtyFour
+returns c =
+    let x = c .args .x in
+    let r = remainderOf x in
+    let fits : x < 2 ^ 64 = omega arith in
+    ap (λ (n : ℕ). bitXor (r * 2) (n % 2 * 0xC001)) (ones-within 64 (bitXor x r) (xor-lt 64 x r fits (omega (arith, remainder-fits x fits)))) ∙ sixty-four-is x fits
+
+pub sixty-four-shifts-spec : {M : Type 1} → statement M
+sixty-four-shifts-spec =
+    tie.close
+    (tie.spec
+    mul-upper
+    mul-multiple
+    mul-folded
+    mul-remainder
+    mul-remainder-2
+    cast-odd
+    mul-result
+    cast-result
+    mul-result-2
+    returns)
