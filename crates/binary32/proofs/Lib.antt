@@ -8,4 +8,3 @@ pub mod Range
 pub mod Whole
 pub mod Bounded
 pub mod Returned
-pub mod Put

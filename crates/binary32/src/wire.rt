@@ -1,7 +1,7 @@
 // A float as four bytes on the wire (01, "The bus").
 ghost use mathlib.Core.Path.{_≡_};
 ghost use lib.Ieee.{binary32, toBits};
-ghost use Rattle.binary32.specs.Wire.{sent, received, putAt};
+ghost use Rattle.binary32.specs.Wire.{sent, received, number};
 
 // The bit pattern of any float. (A NaN, which no device sends, has none of its own: the quiet one.)
 fn bits_of_float(x: f32) -> u32
@@ -13,22 +13,13 @@ fn bits_of_float(x: f32) -> u32
     f32::to_bits(x)
 }
 
-// Writes the four bytes of x into a buffer, from the place `at` on; where they do not fit, it
-// stays as it is. (`at + 4` is not computed first: it can be past the largest usize.)
-pub fn put_float(buffer: &mut [u8], at: usize, x: f32)
-    ensures { λ _. ⌜ now (buffer .exit) ≡ putAt (now (buffer .entry)) at (sent x) ⌝ }
+// The four bytes of x as they are sent, as one number, low byte first: the two of each word change
+// places.
+pub fn bytes_of_float(x: f32) -> u32
+    ensures { λ r. ⌜ r ≡ number (sent x) ⌝ }
 {
-    if buffer.len() < 4 {
-        return;
-    }
-    if buffer.len() - 4 < at {
-        return;
-    }
     let bits = bits_of_float(x);
-    buffer[at] = (bits / 256 % 256) as u8;
-    buffer[at + 1] = (bits % 256) as u8;
-    buffer[at + 2] = (bits / 16777216) as u8;
-    buffer[at + 3] = (bits / 65536 % 256) as u8;
+    (bits & 0xff_00ff) * 256 + (bits >> 8 & 0xff_00ff)
 }
 
 // The float of four bytes as they came, a NaN where their pattern is one.

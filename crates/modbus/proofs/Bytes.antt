@@ -7,7 +7,8 @@ use native.Mathlib.Omega.{arith}
 use lib.Bits.{bitXor, xor-zero-r, xor-lt}
 use lib.ListN.{length, getD, take, drop, length-drop}
 use lib.Seq.{length-take-le, take-add, getD-drop}
-use Rattle.modbus.specs.Checksum.{shifts, taken, number, checksumFrom, checksumOf}
+use Rattle.binary32.specs.Wire.{number}
+use Rattle.modbus.specs.Checksum.{shifts, taken, checksumFrom, checksumOf}
 use Rattle.modbus.proofs.Shifts.{by-one, shifts-fit}
 
 abbrev pub Bytes : List ℕ → Type 0

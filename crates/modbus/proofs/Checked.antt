@@ -11,7 +11,8 @@ use lib.Bits.{bitXor, xor-self, xor-lt}
 use lib.Dec.{eqb}
 use lib.ListN.{length, take, drop}
 use lib.Seq.{take-length, take-at, getD-append-add}
-use Rattle.modbus.specs.Checksum.{shifts, number, checksumOf, framed}
+use Rattle.binary32.specs.Wire.{number}
+use Rattle.modbus.specs.Checksum.{shifts, checksumOf, framed}
 use Rattle.modbus.specs.Frame.{byteAt, checked}
 use Rattle.modbus.proofs.Xor.{xor-zero}
 use Rattle.modbus.proofs.Shifts.{shifts-up, shifts-zero}

@@ -3,6 +3,7 @@ pub mod Shifts
 pub mod Linear
 pub mod AtOnce
 pub mod Bytes
+pub mod Words
 pub mod Registers
 pub mod Replies
 pub mod Judged

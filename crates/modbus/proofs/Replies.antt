@@ -1,5 +1,5 @@
--- What the three replies have in common: a message at the front of the buffer, closed by its checksum, is the reply; and where
--- nothing is replied the buffer is as it was. Assumes nothing.
+-- What the three replies have in common: a message that is put as a number is the reply; and where nothing is replied the buffer
+-- is as it was. Assumes nothing.
 use mathlib.Core.Path.{_≡_, refl, sym, ap, ap₂, _∙_, subst}
 use mathlib.Core.Bool.{Bool, true, false, cond, _||_, true≢false}
 use mathlib.Core.List.{List, [], _∷_, _++_}
@@ -10,10 +10,11 @@ use lib.Bits.{bitOr}
 use lib.Dec.{eqb, ltb, lit≤}
 use lib.Ieee.{Float}
 use lib.ListN.{length, take, drop, length-append, length-take}
-use lib.Seq.{take-at, drop-append-add, drop-drop}
 use Rattle.modbus.specs.Checksum.{checksumOf, framed}
-use Rattle.binary32.specs.Wire.{wireBytes, sent}
+use Rattle.binary32.specs.Wire.{wireBytes, sent, number, bytesOf}
 use Rattle.modbus.specs.Frame.{stationOf, functionOf}
+use Rattle.modbus.proofs.Bytes.{Bytes}
+use Rattle.modbus.proofs.Words.{bytes-number}
 use Rattle.modbus.specs.Reply.{silent, answer, valueReply, writeReply, exceptionCode, exceptionReply, Replied}
 
 -- ---- what a test of silence tells
@@ -33,28 +34,24 @@ module _ (s : List ℕ) (room : ℕ) (h : silent s room ≡ false) where
   pub framed-enough : 4 ≤ length s
   framed-enough = ltb-false (length s) 4 (unsilenced .1)
 
--- ---- closing
+-- ---- the checksum's two bytes
 
 pub length-framed : (l : List ℕ) → length (framed l) ≡ length l + 2
 unfolding framed
 length-framed l = length-append l (checksumOf l % 256 ∷ checksumOf l / 256 ∷ [])
 
-pub closed : (l b B after : List ℕ) (n : ℕ) → length l ≡ n → B ≡ l ++ drop n b → after ≡ framed (take n B) ++ drop (n + 2) B → after ≡ framed l ++ drop (n + 2) b
-closed l b B after n e g h =
-    h
-    ∙ ap (λ (C : List ℕ). framed (take n C) ++ drop (n + 2) C) g
-    ∙ ap₂ (λ (p q : List ℕ). framed p ++ q) (take-at l (drop n b) n e)
-    (ap (λ (k : ℕ). drop (k + 2) (l ++ drop n b)) (sym e) ∙ drop-append-add l (drop n b) 2 ∙ drop-drop 2 n b)
-
 -- ---- the reply, or none
 
 module _ (s b l : List ℕ) where
-  pub replied : (after : List ℕ) (n : ℕ) → silent s (length b) ≡ false → length l ≡ n → after ≡ framed l ++ drop (n + 2) b → Replied (answer s (length b) l) b after (n + 2)
+  -- of the n bytes of a word that is put
+  pub replied : (after : List ℕ) (n word r : ℕ) → silent s (length b) ≡ false → Bytes l → length l ≡ n → word ≡ number l
+      → (r ≡ n + 2) × (after ≡ framed (bytesOf n word) ++ drop (n + 2) b) → Replied (answer s (length b) l) b after r
   unfolding answer
-  replied after n h e g =
-      let size : length (framed l) ≡ n + 2 = length-framed l ∙ ap (λ (k : ℕ). k + 2) e in
-      subst (λ (t : Bool). Replied (cond t [] (framed l)) b after (n + 2)) (sym h)
-      (record { count = sym size; buffer = g ∙ ap (λ (k : ℕ). framed l ++ drop k b) (sym size) })
+  replied after n word r h bs e w put =
+      let size : r ≡ length (framed l) = put .0 ∙ sym (length-framed l ∙ ap (λ (k : ℕ). k + 2) e) in
+      let bytes : bytesOf n word ≡ l = ap₂ bytesOf (sym e) w ∙ bytes-number l bs in
+      subst (λ (t : Bool). Replied (cond t [] (framed l)) b after r) (sym h)
+      (record { count = size; buffer = put .1 ∙ ap₂ (λ (m : List ℕ) (k : ℕ). framed m ++ drop k b) bytes (sym (put .0) ∙ size) })
 
   pub unreplied : silent s (length b) ≡ true → Replied (answer s (length b) l) b b 0
   unfolding answer

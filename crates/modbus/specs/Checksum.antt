@@ -1,7 +1,7 @@
 -- The checksum (01, "The bus"): "Modbus CRC-16, low byte first". The rule bit by bit, as the Modbus standard states it.
 use mathlib.Core.Bool.{cond}
 use mathlib.Core.List.{List, [], _∷_, _++_}
-use Prim.Native.Nat.{ℕ, zero, suc, _+_, _*_, _/_, _%_}
+use Prim.Native.Nat.{ℕ, zero, suc, _/_, _%_}
 use lib.Bits.{bitXor}
 use lib.Dec.{eqb}
 
@@ -30,8 +30,3 @@ checksumOf bytes = checksumFrom 0xFFFF bytes
 -- a message with its checksum, low byte first
 unfoldable pub framed : List ℕ → List ℕ
 framed bytes = bytes ++ (checksumOf bytes % 256 ∷ checksumOf bytes / 256 ∷ [])
-
--- bytes as one number, low byte first
-abbrev pub number : List ℕ → ℕ
-number [] = 0
-number (b ∷ rest) = b + number rest * 256

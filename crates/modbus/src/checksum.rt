@@ -2,7 +2,8 @@
 ghost use mathlib.Core.Path.{_≡_};
 ghost use Prim.Native.Nat.{_+_, _≤_, _<_};
 ghost use lib.ListN.{length, take, drop};
-ghost use Rattle.modbus.specs.Checksum.{shifts, number, checksumFrom, checksumOf};
+ghost use Rattle.binary32.specs.Wire.{number, bytesOf};
+ghost use Rattle.modbus.specs.Checksum.{shifts, checksumFrom, checksumOf};
 
 // Sixty-four shifts at once, with no table: modulo X^15 + X + 1, X^30 is X^2 + 1 and X^15 is X + 1, so
 // the low bits are folded 28, 14 and 9 places up, and an odd number of ones turns over C001.
@@ -47,7 +48,7 @@ fn take_two(sum: u16, bytes: &[u8], i: usize) -> u16
 }
 
 // The four bytes from the place i on as one number, low byte first.
-fn number_of_four(bytes: &[u8], i: usize) -> u32
+pub(crate) fn number_of_four(bytes: &[u8], i: usize) -> u32
     requires { ⌜ i + 4 ≤ length (now bytes) ⌝ }
     ensures { λ r. ⌜ r ≡ number (take 4 (drop i (now (bytes .entry)))) ⌝ }
 {
@@ -120,4 +121,13 @@ fn take_rest(start: u16, bytes: &[u8], from: usize, count: usize) -> u16
         return take_byte(sum, bytes, i);
     }
     sum
+}
+
+// The checksum of the `count` lowest bytes of a word, low byte first: with at least two, none of the
+// start is shifted out.
+pub(crate) fn checksum_of_word(word: u64, count: u64) -> u16
+    requires { ⌜ (2 ≤ count) × (count ≤ 8) ⌝ }
+    ensures { λ r. ⌜ r ≡ checksumOf (bytesOf count word) ⌝ }
+{
+    sixty_four_shifts((word ^ 0xffff) << (64 - 8 * count))
 }

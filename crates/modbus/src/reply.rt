@@ -3,7 +3,8 @@
 ghost use mathlib.Core.Path.{_≡_};
 ghost use mathlib.Core.List.{_++_};
 ghost use Prim.Native.Nat.{_+_, _≤_};
-ghost use lib.ListN.{length, take, drop};
+ghost use lib.ListN.{length, drop};
+ghost use Rattle.binary32.specs.Wire.{bytesOf};
 ghost use Rattle.modbus.specs.Checksum.{framed};
 ghost use Rattle.modbus.specs.Reply.{silent, valueReply, writeReply, exceptionCode, exceptionReply, Replied};
 
@@ -20,14 +21,23 @@ fn is_silent(frame: &[u8], room: usize) -> bool
     frame[0] == 0
 }
 
-// Puts the checksum of the first `count` bytes behind them, low byte first.
-fn close(reply: &mut [u8], count: usize)
-    requires { ⌜ count + 2 ≤ length (now reply) ⌝ }
-    ensures { λ _. ⌜ now (reply .exit) ≡ framed (take count (now (reply .entry))) ++ drop (count + 2) (now (reply .entry)) ⌝ }
+// Puts the `count` bytes of a word, low byte first, and their checksum at the front of the buffer. Says
+// how many bytes that is.
+fn put(reply: &mut [u8], word: u64, count: usize) -> usize
+    requires { ⌜ (2 ≤ count) × (count ≤ 7) × (count + 2 ≤ length (now reply)) ⌝ }
+    ensures { λ r. ⌜ (r ≡ count + 2) × (now (reply .exit) ≡ framed (bytesOf count word) ++ drop (count + 2) (now (reply .entry))) ⌝ }
 {
-    let sum = crate::checksum::checksum(reply, count);
+    let sum = crate::checksum::checksum_of_word(word, count as u64);
+    let mut rest = word;
+    let mut i: usize = 0;
+    while i < count {
+        reply[i] = (rest % 256) as u8;
+        rest = rest / 256;
+        i += 1;
+    }
     reply[count] = (sum % 256) as u8;
     reply[count + 1] = (sum / 256) as u8;
+    count + 2
 }
 
 // The reply to a read: the value x.
@@ -37,12 +47,8 @@ pub fn value(frame: &[u8], reply: &mut [u8], x: f32) -> usize
     if is_silent(frame, reply.len()) {
         return 0;
     }
-    reply[0] = frame[0];
-    reply[1] = 3;
-    reply[2] = 4;
-    binary32::wire::put_float(reply, 3, x);
-    close(reply, 7);
-    9
+    let float = binary32::wire::bytes_of_float(x) as u64;
+    put(reply, (frame[0] as u64) + 0x4_0300 + float * 0x100_0000, 7)
 }
 
 // The reply to a write: the first six bytes of its frame.
@@ -55,9 +61,9 @@ pub fn acknowledgement(frame: &[u8], reply: &mut [u8]) -> usize
     if is_silent(frame, reply.len()) {
         return 0;
     }
-    bytes::copy(&frame[..6], reply);
-    close(reply, 6);
-    8
+    let low = crate::checksum::number_of_four(frame, 0) as u64;
+    let high = (frame[4] as u64) + (frame[5] as u64) * 0x100;
+    put(reply, low + high * 0x1_0000_0000, 6)
 }
 
 // The exception code of a number, 0 for one that has none.
@@ -91,9 +97,6 @@ pub fn exception(frame: &[u8], reply: &mut [u8], number: u8) -> usize
     if code == 0 {
         return 0;
     }
-    reply[0] = frame[0];
-    reply[1] = function | 0x80;
-    reply[2] = code;
-    close(reply, 3);
-    5
+    let start = (frame[0] as u64) + ((function | 0x80) as u64) * 0x100;
+    put(reply, start + (code as u64) * 0x1_0000, 3)
 }

@@ -51,9 +51,12 @@ fn goes_out(so_far: u64, z: i64, bits: u32) -> u64 {
     if 4194304000 < z {
         return so_far;
     }
-    let mut wire = [0u8; 4];
-    binary32::wire::put_float(&mut wire, 0, binary32::sent::float_of_steps(z));
-    counted(so_far, pattern(wire[0], wire[1], wire[2], wire[3]) == bits)
+    let sent = binary32::wire::bytes_of_float(binary32::sent::float_of_steps(z));
+    let first = (sent % 256) as u8;
+    let second = (sent / 256 % 256) as u8;
+    let third = (sent / 65536 % 256) as u8;
+    let fourth = (sent / 16777216) as u8;
+    counted(so_far, pattern(first, second, third, fourth) == bits)
 }
 
 // Step counts that are floats exactly, with the two ends of the range.

@@ -6,7 +6,8 @@ use native.Mathlib.Omega.{arith}
 use denote.Ref.{now}
 use lib.Bits.{bitXor}
 use lib.ListN.{take, drop}
-use Rattle.modbus.specs.Checksum.{shifts, number}
+use Rattle.binary32.specs.Wire.{number}
+use Rattle.modbus.specs.Checksum.{shifts}
 use Rattle.modbus.specs.Frame.{byteAt}
 use Rattle.modbus.proofs.Bytes.{number-at, run-at-once}
 use borrow.Author.Needs.{needs}

@@ -1,29 +1,24 @@
--- `modbus::reply::acknowledgement` meets its contract: a copy and the checksum. Assumes nothing.
-use mathlib.Core.Path.{_≡_, refl, sym, ap, ap₂, _∙_, subst}
+-- `modbus::reply::acknowledgement` meets its contract: the first six bytes as one number. Assumes nothing.
+use mathlib.Core.Path.{_≡_, refl, sym, _∙_, subst}
 use mathlib.Core.Bool.{Bool, false, cond}
-use mathlib.Core.List.{List, [], _++_}
-use Prim.Native.Nat.{ℕ}
+use mathlib.Core.List.{List, []}
+use Prim.Native.Nat.{ℕ, _+_, _*_}
 use native.Mathlib.Omega.{arith}
-use borrow.Author.Needs.{needs}
 use borrow.Author.Tests.{eq-eqb, ne-eqb}
 use denote.Ref.{now}
-use lib.ListN.{length, take, drop}
-use lib.Seq.{take-length, length-take-le}
+use lib.ListN.{length, take}
+use lib.Seq.{length-take-le}
+use Rattle.modbus.specs.Frame.{byteAt}
 use Rattle.modbus.specs.Reply.{silent, answer, writeReply, Replied}
-use Rattle.modbus.proofs.Replies.{enough, closed, replied, unreplied}
+use Rattle.modbus.proofs.Bytes.{bytes-taken, number-at}
+use Rattle.modbus.proofs.Replies.{enough, replied, unreplied}
+use borrow.Author.Needs.{needs}
 use Rattle.modbus.proofs.reply.acknowledgement.Statement.{statement}
 use Rattle.modbus.proofs.reply.acknowledgement.Tie as tie
 
 whole : (s b after : List ℕ) (n : ℕ) → length s ≡ 13 → Replied (answer s (length b) (take 6 s)) b after n → Replied (writeReply s (length b)) b after n
 unfolding writeReply
 whole s b after n h r = subst (λ (t : Bool). Replied (cond t (answer s (length b) (take 6 s)) []) b after n) (sym (eq-eqb (length s) 13 h)) r
-
-six : (s : List ℕ) → length s ≡ 13 → length (take 6 s) ≡ 6
-six s h = length-take-le 6 s (omega arith)
-
--- the buffer after the copy
-front : (s b last : List ℕ) → length s ≡ 13 → last ≡ take (length (take 6 s)) (take 6 s) ++ drop (length (take 6 s)) b → last ≡ take 6 s ++ drop 6 b
-front s b last h e = e ∙ ap₂ (λ (p q : List ℕ). p ++ q) (take-length (take 6 s)) (ap (λ (k : ℕ). drop k b) (six s h))
 
 speaks : (c : tie.Else2) → silent (now (c .before .before .before .before .before .args .frame)) (length (now (c .before .before .before .before .before .args .reply))) ≡ false
 speaks c = sym (c .before .is-silent .ensures) ∙ c .if2 .left
@@ -40,29 +35,55 @@ returns-2 c =
     let a = c .before .before .before .before .before .args in
     whole (now (a .frame)) (now (a .reply)) (now (a .reply)) 0 (c .before .before .if1 .left) (unreplied (now (a .frame)) (now (a .reply)) (take 6 (now (a .frame))) (sym (c .before .is-silent .ensures) ∙ c .if2 .taken))
 
-slice-aggregate-copy : tie.Need-slice-aggregate-copy
-slice-aggregate-copy c = sym (six (now (c .before .before .before .before .before .before .args .frame)) (c .before .before .before .if1 .left))
+number-of-four-requires : tie.Need-number-of-four-requires
+number-of-four-requires c κs = search needs
 
-copy-requires : tie.Need-copy-requires
-copy-requires c κs = omega (arith, six (now (c .before .before .before .before .before .before .before .args .frame)) (c .before .before .before .before .if1 .left), enough _ _ (speaks (c .before .before)))
+cast-low : tie.Need-cast-low
+cast-low c = search needs
 
-close-requires : tie.Need-close-requires
-close-requires c κs = omega (arith, c .before .before .reply .given, enough _ _ (speaks (c .before .before .before .before .before .before)))
+shared-slice-read-high : tie.Need-shared-slice-read-high
+shared-slice-read-high c = search needs
+
+cast-high : tie.Need-cast-high
+cast-high c = omega (arith, c .shared-slice-known2 .given 4)
+
+shared-slice-read-high-2 : tie.Need-shared-slice-read-high-2
+shared-slice-read-high-2 c = search needs
+
+cast-high-2 : tie.Need-cast-high-2
+cast-high-2 c = omega (arith, c .shared-slice-known3 .given 5)
+
+mul-high : tie.Need-mul-high
+mul-high c = omega (arith, c .shared-slice-known3 .given 5)
+
+add-high : tie.Need-add-high
+add-high c = omega (arith, c .shared-slice-known3 .given 4, c .shared-slice-known3 .given 5)
+
+mul-put : tie.Need-mul-put
+mul-put c = omega (arith, c .before .shared-slice-known3 .given 4, c .before .shared-slice-known3 .given 5)
+
+add-put : tie.Need-add-put
+add-put c = omega (arith, c .before .shared-slice-known3 .given 4, c .before .shared-slice-known3 .given 5)
+
+put-requires : tie.Need-put-requires
+put-requires c κs = (omega arith, omega arith, omega (arith, enough _ _ (speaks (c .before .before .before .before))))
 
 same-length : tie.Need-same-length
 same-length c = search needs
 
 returns-3 : tie.Need-returns-3
 returns-3 c =
-    let e = c .before .before .before .before .before .before .before .before .before in
+    let e = c .before .before .before .before .before .before .before in
     let a = e .before .before .before .before .before .args in
     let s = now (a .frame) in
-    let b = now (a .reply) in
-    let k = c .before .before .before .before .before .before .copy in
+    let low = c .before .before .before .before .before .before .number-of-four in
     let n = e .before .before .if1 .left in
-    whole s b (c .before .before .close .last .0) 8 n
-    (replied s b (take 6 s) (c .before .before .close .last .0) 6 (speaks e) (six s n)
-    (closed (take 6 s) b (k .last .1 .0) (c .before .before .close .last .0) 6 (six s n) (front s b (k .last .1 .0) n (k .ensures .1)) (c .before .before .close .ensures)))
+    whole s (now (a .reply)) (c .before .before .put .last .0) (c .before .before .put .result) n
+    (replied s (now (a .reply)) (take 6 s) (c .before .before .put .last .0) 6 (low .result + (byteAt s 4 + byteAt s 5 * 0x100) * 0x100000000) (c .before .before .put .result) (speaks e)
+    (bytes-taken 6 s (λ j. omega (arith, c .before .before .before .before .shared-slice-known3 .given j)))
+    (length-take-le 6 s (omega arith))
+    (omega (arith, low .ensures, number-at s 0 4, number-at s 0 6))
+    (c .before .before .put .ensures))
 
 pub acknowledgement-spec : {M : Type 1} → statement M
 acknowledgement-spec =
@@ -71,8 +92,16 @@ acknowledgement-spec =
     returns
     is-silent-requires
     returns-2
-    slice-aggregate-copy
-    copy-requires
-    close-requires
+    number-of-four-requires
+    cast-low
+    shared-slice-read-high
+    cast-high
+    shared-slice-read-high-2
+    cast-high-2
+    mul-high
+    add-high
+    mul-put
+    add-put
+    put-requires
     same-length
     returns-3)

@@ -1,19 +1,20 @@
--- `modbus::reply::exception` meets its contract: three stores and the checksum. Assumes nothing.
+-- `modbus::reply::exception` meets its contract: the message as one number. Assumes nothing.
 use mathlib.Core.Path.{_≡_, refl, sym, _∙_, subst}
 use mathlib.Core.Bool.{Bool, true, false, cond}
 use mathlib.Core.List.{List, [], _∷_}
-use Prim.Native.Nat.{ℕ}
+use Prim.Native.Nat.{ℕ, _+_, _*_, _<_}
 use native.Mathlib.Omega.{arith}
-use borrow.Author.Needs.{needs}
 use borrow.Author.Tests.{eq-eqb, ne-eqb}
 use denote.Ref.{now}
-use lib.Bits.{bitOr}
+use lib.Bits.{bitOr, or-lt}
 use lib.Dec.{eqb}
-use lib.ListN.{length, length-set}
-use lib.Seq.{sets-eq}
+use lib.ListN.{length}
 use Rattle.modbus.specs.Frame.{stationOf, functionOf}
 use Rattle.modbus.specs.Reply.{silent, answer, exceptionCode, exceptionReply, Replied}
-use Rattle.modbus.proofs.Replies.{enough, framed-enough, closed, replied, unreplied}
+use Rattle.modbus.proofs.Bytes.{Bytes}
+use Rattle.modbus.proofs.Replies.{enough, framed-enough, replied, unreplied}
+use Rattle.modbus.proofs.reply.exception.Tie as tie
+use borrow.Author.Needs.{needs}
 use Rattle.modbus.proofs.reply.exception.Statement.{statement}
 use Rattle.modbus.proofs.reply.exception.Tie as tie
 
@@ -37,14 +38,17 @@ module _ (s b : List ℕ) (number : ℕ) where
   unfolding exceptionReply
   uncoded h = subst (λ (t : Bool). Replied (cond t [] (with code)) b b 0) (sym (eq-eqb code 0 h)) (record { count = refl; buffer = refl })
 
-  coded : (k : ℕ) → k ≡ code → (k ≡ 0 → ⊥) → (after : List ℕ) → Replied (with k) b after 5 → Replied (exceptionReply s (length b) number) b after 5
+  coded : (k : ℕ) → k ≡ code → (k ≡ 0 → ⊥) → (after : List ℕ) (n : ℕ) → Replied (with k) b after n → Replied (exceptionReply s (length b) number) b after n
   unfolding exceptionReply
-  coded k e h after r =
-      subst (λ (t : Bool). Replied (cond t [] (with code)) b after 5) (sym (ne-eqb code 0 (λ g. h (e ∙ g))))
-      (subst (λ (i : ℕ). Replied (with i) b after 5) e r)
+  coded k e h after n r =
+      subst (λ (t : Bool). Replied (cond t [] (with code)) b after n) (sym (ne-eqb code 0 (λ g. h (e ∙ g))))
+      (subst (λ (i : ℕ). Replied (with i) b after n) e r)
 
 speaks : (c : tie.Else1) → silent (now (c .before .before .before .before .args .frame)) (length (now (c .before .before .before .before .args .reply))) ≡ false
 speaks c = sym (c .before .is-silent .ensures) ∙ c .if1 .left
+
+top-set : (n : ℕ) → n < 256 → bitOr n 128 < 256
+top-set n h = or-lt 8 n 128 h (omega arith)
 
 is-silent-requires : tie.Need-is-silent-requires
 is-silent-requires c κs = search needs
@@ -61,33 +65,49 @@ exception-code-requires c κs = search needs
 returns-2 : tie.Need-returns-2
 returns-2 c = let a = c .before .before .before .before .before .before .before .args in uncoded (now (a .frame)) (now (a .reply)) (a .number) (sym (c .before .exception-code .ensures) ∙ c .if2 .taken)
 
-shared-slice-read-reply : tie.Need-shared-slice-read-reply
-shared-slice-read-reply c = omega (arith, framed-enough _ _ (speaks (c .before .before .before .before)))
+shared-slice-read-start : tie.Need-shared-slice-read-start
+shared-slice-read-start c = omega (arith, framed-enough _ _ (speaks (c .before .before .before .before)))
 
-slice-write-reply : tie.Need-slice-write-reply
-slice-write-reply c = omega (arith, enough _ _ (speaks (c .before .before .before .before)))
+cast-start : tie.Need-cast-start
+cast-start c = omega (arith, c .shared-slice-known3 .given 0)
 
-slice-write-reply-2 : tie.Need-slice-write-reply-2
-slice-write-reply-2 c = simp length-set (omega (arith, enough _ _ (speaks (c .before .before .before .before))))
+cast-start-2 : tie.Need-cast-start-2
+cast-start-2 c = omega (arith, c .shared-slice-known3 .given 0, top-set (functionOf (now (c .before .before .before .before .before .before .before .before .args .frame))) (omega (arith, c .shared-slice-known3 .given 1)))
 
-slice-write-reply-3 : tie.Need-slice-write-reply-3
-slice-write-reply-3 c = simp length-set (omega (arith, enough _ _ (speaks (c .before .before .before .before))))
+mul-start : tie.Need-mul-start
+mul-start c = omega (arith, c .shared-slice-known3 .given 0, top-set (functionOf (now (c .before .before .before .before .before .before .before .before .args .frame))) (omega (arith, c .shared-slice-known3 .given 1)))
 
-close-requires : tie.Need-close-requires
-close-requires c κs = simp length-set (omega (arith, enough _ _ (speaks (c .before .before .before .before .before))))
+add-start : tie.Need-add-start
+add-start c = omega (arith, c .shared-slice-known3 .given 0, top-set (functionOf (now (c .before .before .before .before .before .before .before .before .args .frame))) (omega (arith, c .shared-slice-known3 .given 1)))
+
+cast-put : tie.Need-cast-put
+cast-put c = search needs
+
+mul-put : tie.Need-mul-put
+mul-put c = search needs
+
+add-put : tie.Need-add-put
+add-put c = omega (arith, c .before .shared-slice-known3 .given 0, top-set (functionOf (now (c .before .before .before .before .before .before .before .before .before .args .frame))) (omega (arith, c .before .shared-slice-known3 .given 1)))
+
+put-requires : tie.Need-put-requires
+put-requires c κs = (omega arith, omega arith, omega (arith, enough _ _ (speaks (c .before .before .before .before .before))))
 
 same-length : tie.Need-same-length
-same-length c = c .before .reply .given ∙ simp length-set
+same-length c = search needs
 
 returns-3 : tie.Need-returns-3
 returns-3 c =
     let e = c .before .before .before .before .before .before .before .before in
     let a = e .before .before .before .before .args in
+    let s = now (a .frame) in
+    let b = now (a .reply) in
     let x = c .before .before .before .before .before .before .exception-code in
-    let l = stationOf (now (a .frame)) ∷ bitOr (functionOf (now (a .frame))) 128 ∷ x .result ∷ [] in
-    coded (now (a .frame)) (now (a .reply)) (a .number) (x .result) (x .ensures) (c .before .before .before .before .before .if2 .left) (c .before .before .close .last .0)
-    (replied (now (a .frame)) (now (a .reply)) l (c .before .before .close .last .0) 3 (speaks e) refl
-    (closed l (now (a .reply)) _ (c .before .before .close .last .0) 3 refl (sets-eq l (now (a .reply)) 0 (omega (arith, enough _ _ (speaks e)))) (c .before .before .close .ensures)))
+    let p = c .before .before .put in
+    let k = c .before .before .before .before .shared-slice-known3 .given in
+    let top = bitOr (functionOf s) 128 in
+    let bytes : Bytes (stationOf s ∷ top ∷ x .result ∷ []) = (omega (arith, k 0), (top-set (functionOf s) (omega (arith, k 1)), (omega arith, tt))) in
+    coded s b (a .number) (x .result) (x .ensures) (c .before .before .before .before .before .if2 .left) (p .last .0) (p .result)
+    (replied s b (stationOf s ∷ top ∷ x .result ∷ []) (p .last .0) 3 (stationOf s + top * 0x100 + x .result * 0x10000) (p .result) (speaks e) bytes refl (omega arith) (p .ensures))
 
 pub exception-spec : {M : Type 1} → statement M
 exception-spec =
@@ -98,10 +118,14 @@ exception-spec =
     shared-slice-read-function
     exception-code-requires
     returns-2
-    shared-slice-read-reply
-    slice-write-reply
-    slice-write-reply-2
-    slice-write-reply-3
-    close-requires
+    shared-slice-read-start
+    cast-start
+    cast-start-2
+    mul-start
+    add-start
+    cast-put
+    mul-put
+    add-put
+    put-requires
     same-length
     returns-3)

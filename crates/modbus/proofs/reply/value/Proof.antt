@@ -1,30 +1,26 @@
--- `modbus::reply::value` meets its contract: three stores, the float and the checksum. Assumes nothing.
-use mathlib.Core.Path.{_≡_, refl, sym, ap, _∙_}
+-- `modbus::reply::value` meets its contract: the message as one number. Assumes nothing.
+use mathlib.Core.Path.{_≡_, refl, sym, _∙_, subst}
 use mathlib.Core.Bool.{false}
-use mathlib.Core.List.{List, [], _∷_, _++_}
-use Prim.Native.Nat.{ℕ, _≤_}
+use mathlib.Core.List.{_∷_}
+use Prim.Native.Nat.{_+_, _*_}
 use native.Mathlib.Omega.{arith}
-use borrow.Author.Needs.{needs}
 use denote.Ref.{now}
-use lib.ListN.{length, set, take, drop, length-set}
-use lib.Seq.{sets-eq, drop-drop}
-use lib.Ieee.{Float}
-use Rattle.binary32.specs.Wire.{wireBytes, sent, putAt}
-use Rattle.binary32.proofs.Put.{put-fit}
+use lib.Dec.{T}
+use lib.Ieee.{Float, binary32, fits}
+use lib.Ieee.Bits.{toBits-lt}
+use lib.ListN.{length}
+use Rattle.binary32.specs.Wire.{wireBytes, sent}
 use Rattle.modbus.specs.Frame.{stationOf}
 use Rattle.modbus.specs.Reply.{silent}
-use Rattle.modbus.proofs.Replies.{enough, framed-enough, closed, replied, unreplied}
+use Rattle.modbus.proofs.Bytes.{Bytes}
+use Rattle.modbus.proofs.Replies.{enough, framed-enough, replied, unreplied}
+use borrow.Author.Needs.{needs}
 use Rattle.modbus.proofs.reply.value.Statement.{statement}
 use Rattle.modbus.proofs.reply.value.Tie as tie
 
--- the buffer before it is closed
-front : (b last : List ℕ) (k : ℕ) (x : Float) → 9 ≤ length b → last ≡ putAt (set (set (set b 0 k) 1 3) 2 4) 3 (sent x) → last ≡ (k ∷ 3 ∷ 4 ∷ sent x) ++ drop 7 b
+sent-bytes : (x : Float) → T (fits binary32 x) → Bytes (sent x)
 unfolding wireBytes
-front b last k x h e =
-    e
-    ∙ put-fit (set (set (set b 0 k) 1 3) 2 4) 3 (sent x) (simp length-set (omega arith))
-    ∙ ap (λ (B : List ℕ). take 3 B ++ sent x ++ drop 7 B) (sets-eq (k ∷ 3 ∷ 4 ∷ []) b 0 (omega arith))
-    ∙ ap (λ (r : List ℕ). (k ∷ 3 ∷ 4 ∷ sent x) ++ r) (drop-drop 4 3 b)
+sent-bytes x h = (omega arith, (omega arith, (omega (arith, toBits-lt binary32 x h), (omega arith, tt))))
 
 speaks : (c : tie.Else1) → silent (now (c .before .before .before .before .args .frame)) (length (now (c .before .before .before .before .args .reply))) ≡ false
 speaks c = sym (c .before .is-silent .ensures) ∙ c .if1 .left
@@ -35,37 +31,45 @@ is-silent-requires c κs = search needs
 returns : tie.Need-returns
 returns c = let a = c .before .before .before .before .args in unreplied (now (a .frame)) (now (a .reply)) (stationOf (now (a .frame)) ∷ 3 ∷ 4 ∷ sent (a .x)) (sym (c .before .is-silent .ensures) ∙ c .if1 .taken)
 
-shared-slice-read-reply : tie.Need-shared-slice-read-reply
-shared-slice-read-reply c = omega (arith, framed-enough _ _ (speaks (c .before)))
+bytes-of-float-requires : tie.Need-bytes-of-float-requires
+bytes-of-float-requires c κs = search needs
 
-slice-write-reply : tie.Need-slice-write-reply
-slice-write-reply c = omega (arith, enough _ _ (speaks (c .before)))
+cast-float : tie.Need-cast-float
+cast-float c = search needs
 
-slice-write-reply-2 : tie.Need-slice-write-reply-2
-slice-write-reply-2 c = simp length-set (omega (arith, enough _ _ (speaks (c .before))))
+shared-slice-read-put : tie.Need-shared-slice-read-put
+shared-slice-read-put c = omega (arith, framed-enough _ _ (speaks (c .before .before .before)))
 
-slice-write-reply-3 : tie.Need-slice-write-reply-3
-slice-write-reply-3 c = simp length-set (omega (arith, enough _ _ (speaks (c .before))))
+cast-put : tie.Need-cast-put
+cast-put c = omega (arith, c .shared-slice-known2 .given 0)
 
-put-float-requires : tie.Need-put-float-requires
-put-float-requires c κs = search needs
+add-put : tie.Need-add-put
+add-put c = omega (arith, c .shared-slice-known2 .given 0)
 
-close-requires : tie.Need-close-requires
-close-requires c κs = omega (arith, simp length-set at (c .before .before .reply .given), enough _ _ (speaks (c .before .before .before .before .before .before)))
+mul-put : tie.Need-mul-put
+mul-put c = search needs
+
+add-put-2 : tie.Need-add-put-2
+add-put-2 c = omega (arith, c .shared-slice-known2 .given 0)
+
+put-requires : tie.Need-put-requires
+put-requires c κs = (omega arith, omega arith, omega (arith, enough _ _ (speaks (c .before .before .before))))
 
 same-length : tie.Need-same-length
-same-length c = c .before .reply2 .given ∙ c .before .before .before .before .before .reply .given ∙ simp length-set
+same-length c = search needs
 
 returns-2 : tie.Need-returns-2
 unfolding wireBytes
 returns-2 c =
-    let e = c .before .before .before .before .before .before .before .before .before in
-    let a = e .before .before .before .before .args in
-    let l = stationOf (now (a .frame)) ∷ 3 ∷ 4 ∷ sent (a .x) in
-    replied (now (a .frame)) (now (a .reply)) l (c .before .before .close .last .0) 7 (speaks e) refl
-    (closed l (now (a .reply)) (c .before .before .before .before .before .before .put-float .last .0) (c .before .before .close .last .0) 7 refl
-    (front (now (a .reply)) (c .before .before .before .before .before .before .put-float .last .0) (stationOf (now (a .frame))) (a .x) (enough _ _ (speaks e)) (c .before .before .before .before .before .before .put-float .ensures))
-    (c .before .before .close .ensures))
+    let e = c .before .before .before .before .before .before in
+    let o = e .before .before .before .before in
+    let s = now (o .args .frame) in
+    let float = c .before .before .before .before .before .bytes-of-float in
+    let l = stationOf s ∷ 3 ∷ 4 ∷ sent (o .args .x) in
+    let bytes : Bytes l = (omega (arith, c .before .before .before .shared-slice-known2 .given 0), (omega arith, (omega arith, sent-bytes (o .args .x) (subst T (sym (o .good .1 .1 .0 .1)) tt)))) in
+    replied s (now (o .args .reply)) l (c .before .before .put .last .0) 7 (stationOf s + 0x40300 + float .result * 0x1000000) (c .before .before .put .result) (speaks e) bytes refl
+    (omega (arith, float .ensures))
+    (c .before .before .put .ensures)
 
 pub value-spec : {M : Type 1} → statement M
 value-spec =
@@ -73,11 +77,13 @@ value-spec =
     (tie.spec
     is-silent-requires
     returns
-    shared-slice-read-reply
-    slice-write-reply
-    slice-write-reply-2
-    slice-write-reply-3
-    put-float-requires
-    close-requires
+    bytes-of-float-requires
+    cast-float
+    shared-slice-read-put
+    cast-put
+    add-put
+    mul-put
+    add-put-2
+    put-requires
     same-length
     returns-2)

@@ -1,7 +1,7 @@
 -- `vectors::floats::goes_out` meets its contract: its two tests say that z is in the range. Assumes nothing.
-use borrow.Author.Needs.{needs}
 use Rattle.integers.proofs.Order.{lt-no}
 use Rattle.integers.proofs.Magnitude.{within-of}
+use borrow.Author.Needs.{needs}
 use Rattle.vectors.proofs.floats.goes_out.Statement.{statement}
 use Rattle.vectors.proofs.floats.goes_out.Tie as tie
 
@@ -11,26 +11,23 @@ returns c = search needs
 returns-2 : tie.Need-returns-2
 returns-2 c = search needs
 
-slice-aggregate-put-float : tie.Need-slice-aggregate-put-float
-slice-aggregate-put-float c = search needs
-
 float-of-steps-requires : tie.Need-float-of-steps-requires
-float-of-steps-requires c κs = within-of (lt-no (c .before .before .if1 .left)) (lt-no (c .before .if2 .left))
+float-of-steps-requires c κs = within-of (lt-no (c .before .if1 .left)) (lt-no (c .if2 .left))
 
-put-float-requires : tie.Need-put-float-requires
-put-float-requires c κs = search needs
+bytes-of-float-requires : tie.Need-bytes-of-float-requires
+bytes-of-float-requires c κs = search needs
 
-array-read-pattern : tie.Need-array-read-pattern
-array-read-pattern c = search needs
+cast-first : tie.Need-cast-first
+cast-first c = search needs
 
-array-read-pattern-2 : tie.Need-array-read-pattern-2
-array-read-pattern-2 c = search needs
+cast-second : tie.Need-cast-second
+cast-second c = search needs
 
-array-read-pattern-3 : tie.Need-array-read-pattern-3
-array-read-pattern-3 c = search needs
+cast-third : tie.Need-cast-third
+cast-third c = search needs
 
-array-read-pattern-4 : tie.Need-array-read-pattern-4
-array-read-pattern-4 c = search needs
+cast-fourth : tie.Need-cast-fourth
+cast-fourth c = search needs
 
 pattern-requires : tie.Need-pattern-requires
 pattern-requires c κs = search needs
@@ -47,13 +44,12 @@ goes-out-spec =
     (tie.spec
     returns
     returns-2
-    slice-aggregate-put-float
     float-of-steps-requires
-    put-float-requires
-    array-read-pattern
-    array-read-pattern-2
-    array-read-pattern-3
-    array-read-pattern-4
+    bytes-of-float-requires
+    cast-first
+    cast-second
+    cast-third
+    cast-fourth
     pattern-requires
     counted-requires
     returns-3)
