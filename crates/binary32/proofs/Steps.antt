@@ -5,7 +5,7 @@ use mathlib.Core.Bool.{Bool, not}
 use Prim.Native.Nat.{ℕ, _+_, _-_, _*_, _/_, _%_, _^_, _≤_, _<_}
 use native.Mathlib.Nat.{le-trans, le-of-lt, le-of-eq, lt-of-lt-of-le, mul-right-comm, mod-lt, mod-eq-of-lt, mul-le-mul-right, le-of-mul-le-mul-right, eq-of-mul-eq-mul-right}
 use native.Mathlib.Omega.{arith}
-use lib.IntN.{ℤ, pos, negℤ, _-ℤ_, _*ℤ_}
+use lib.IntN.{ℤ, pos, negℤ, _+ℤ_, _-ℤ_, _*ℤ_}
 use lib.Dec.{T, leb, leb→le, le→leb, lit≤}
 use lib.Arith.{lt→nleb}
 use lib.Pow.{pow-pos, pow-mono}
@@ -18,8 +18,7 @@ use mir.Syntax.{w64}
 use mir.Val.{SFits, toZ}
 use mir.ValLaws.{toZ-pos}
 use lib.Signed.{_<ℤ_}
-use Rattle.integers.specs.Within.{_within_}
-use Rattle.integers.proofs.Difference.{nat, _⊝_, lt! }
+use Rattle.integers.proofs.Difference.{nat, minus, _⊕_, _⊝_, lt! }
 use Rattle.integers.proofs.Machine.{fits! }
 use Rattle.arithmetic.specs.Round.{roundDiv}
 use Rattle.arithmetic.proofs.Round.{round-same, round-none}
@@ -98,7 +97,7 @@ module _ (x : Float) (F : T (fits binary32 x)) (r : T (zeroFits x)) where
       twice : (n p : ℕ) → n < p → 2 * n < 2 * p
       twice n p h = omega arith
 
-  abbrev units : ℕ
+  abbrev pub units : ℕ
   units = (2 ^ 23 + t) * 2 ^ (e - 109) % 2 ^ 64
 
   kept : (2 ^ 23 + t) * 2 ^ (e - 109) ≡ units
@@ -119,15 +118,18 @@ module _ (x : Float) (F : T (fits binary32 x)) (r : T (zeroFits x)) where
   pub negative : 109 ≤ e → 2 ^ 31 ≤ b → nearestStep x ≡ roundDiv (negℤ (pos units)) (pos 33554432)
   negative h g = steps-are h ∙ ap (λ (s : Bool). roundDiv (signed s units) (pos 33554432)) (is-true (leb (2 ^ 31) b) (le→leb (2 ^ 31) b g))
 
-  -- as the machine holds them, and with the sign turned
+  -- as the machine holds them, and with half a step added on each side of zero
   pub units-held : toZ w64 units ≡ pos units
   units-held = toZ-pos w64 units (lt-of-lt-of-le units-lt (pow-mono {i = 56} {j = 63} (lit≤ tt)))
 
   pub units-fit : SFits w64 (pos units)
   units-fit = record { sfits = lt-of-lt-of-le units-lt (pow-mono {i = 56} {j = 63} (lit≤ tt)) }
 
-  pub turned-fit : SFits w64 (pos 0 -ℤ pos units)
-  turned-fit = fits! (nat 0 ⊝ nat units) (omega (arith, units-lt))
+  pub raised-fit : SFits w64 (pos units +ℤ pos 16777216)
+  raised-fit = fits! (nat units ⊕ nat 16777216) (omega (arith, units-lt))
 
-  pub units-in : (pos units) within (2 ^ 62)
-  units-in = record { abs = le-trans (le-of-lt units-lt) (pow-mono {i = 56} {j = 62} (lit≤ tt)) }
+  pub turned-fit : SFits w64 (negℤ (pos units))
+  turned-fit = fits! (minus (nat units)) (omega (arith, units-lt))
+
+  pub turned-raised-fit : SFits w64 (pos 16777216 -ℤ pos units)
+  turned-raised-fit = fits! (nat 16777216 ⊝ nat units) (omega (arith, units-lt))

@@ -3,7 +3,6 @@
 ghost use mathlib.Core.Path.{_≡_};
 ghost use lib.Dec.{T};
 ghost use Rattle.binary32.specs.Received.{nearestStep, zeroFits, zeroSteps, inWord, wholePart, flagFits, flagWhole};
-use arithmetic::round_div;
 
 // Does SZ take x?
 pub fn zero_fits(x: f32) -> bool
@@ -16,8 +15,8 @@ pub fn zero_fits(x: f32) -> bool
 }
 
 // The steps nearest to x, from its bit pattern: x is digits × 2^(exponent − 150), so units is x in
-// steps, times 2^25, and is rounded by the one rule. Below an exponent of 109, x is less than a
-// quarter of a step. (Adding 0.5 in f32 would round a second time.)
+// steps, times 2^25; halves upwards that is ⌊(units + 2^24) ÷ 2^25⌋, by a shift. Below an exponent of
+// 109, x is less than a quarter of a step. (Adding 0.5 in f32 would round a second time.)
 fn nearest_step(x: f32) -> i64
     requires { ⌜ T (zeroFits x) ⌝ }
     ensures { λ r. ⌜ r ≡ nearestStep x ⌝ }
@@ -30,9 +29,9 @@ fn nearest_step(x: f32) -> i64
     let digits = 0x80_0000 + bits % 0x80_0000;
     let units = (digits << (exponent - 109)) as i64;
     if bits < 0x8000_0000 {
-        return round_div(units, 0x200_0000);
+        return (units + 0x100_0000) >> 25;
     }
-    round_div(-units, 0x200_0000)
+    (0x100_0000 - units) >> 25
 }
 
 // The step count that a write of x gives SZ; 0 where x is unfit.
