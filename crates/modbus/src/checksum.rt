@@ -102,7 +102,7 @@ fn checksum_of_front(bytes: &[u8], count: usize) -> u16
     take_rest(sum, bytes, i, count)
 }
 
-// The fewer than eight bytes that are left from the place `from` on.
+// The bytes that are left from the place `from` on, fewer than eight, taken in.
 fn take_rest(start: u16, bytes: &[u8], from: usize, count: usize) -> u16
     requires { ⌜ (from ≤ count) × (count < from + 8) × (count ≤ length (now bytes)) × (start ≡ checksumOf (take from (now bytes))) ⌝ }
     ensures { λ r. ⌜ r ≡ checksumOf (take count (now (bytes .entry))) ⌝ }
