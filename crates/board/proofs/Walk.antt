@@ -25,7 +25,7 @@ pub use types.Part.{agg, whole, sub, look-in, store-in}
 pub use types.SemTy.{Body}
 pub use sound.WpLaws.{FmC, fmOf, WpFn-mono}
 pub use denote.RattleType.{owns}
-pub use denote.Laws.{Is, shows, Ises, Are, Makess}
+pub use denote.Laws.{Is, shows}
 pub use denote.Memory.{mem, partAt}
 pub use denote.Plain.{uint-makes, bool-lawful, uint-vals, uint-tells}
 pub use denote.Signed.{sint-tells, sint-makes, sint-lawful, sint-vals}

@@ -111,11 +111,8 @@ module _ {M : Type 1} (𝓤 : URA M) (H : Heap 𝓤) (A : Atoms 𝓤) (W : Given
 
   -- ---- what each triple binds outside, what it asks, and what it says
 
-  abbrev ask-args : RefT (List ℕ) × (ℕ × (ℕ × Unit {0}))
-  ask-args = (xf, (room, (h .setup .station, tt)))
-
   abbrev to-ask : Bound 𝓤 H A ask.signature
-  to-ask = ((κ₁, tt), (q₁, tt), tt, ask-args, (vf ∷ [], (vint w64 room ∷ [], (vint w8 (h .setup .station) ∷ [], tt))))
+  to-ask = ((κ₁, tt), (q₁, tt), tt, (xf, (room, (h .setup .station, tt))), (vf ∷ [], (vint w64 room ∷ [], (vint w8 (h .setup .station) ∷ [], tt))))
 
   ask-asks : h .setup .station < 2 ^ 8 → ent 𝓤 (⋆ 𝓤 H A (‵ (flft κ₁ q₁) ∷ Bytes ∷ [])) (tripleOf 𝓤 H A ask.signature (ask.spec 𝓤 H A at-mem run) .pre (to-ask, tt))
   ask-asks fits =
@@ -127,11 +124,8 @@ module _ {M : Type 1} (𝓤 : URA M) (H : Heap 𝓤) (A : Atoms 𝓤) (W : Given
 
   -- what the frame asks, and its machine value
   module _ (a : Frame) (va : Val) (a-is : Is R.the-row a (va ∷ [])) where
-    abbrev answer-args : State × (ℤ × (Frame × (RefT (List ℕ) × (RefT (List ℕ) × Unit {0}))))
-    answer-args = (h .state, (sz, (a, (xf, (xr, tt)))))
-
     abbrev to-answer : Bound 𝓤 H A answer.signature
-    to-answer = ((κ₁, (κ₂, tt)), (q₁, (q₂, tt)), tt, answer-args, (mach-state (h .state) ∷ [], (number sz ∷ [], (va ∷ [], (vf ∷ [], (vr ∷ [], tt))))))
+    to-answer = ((κ₁, (κ₂, tt)), (q₁, (q₂, tt)), tt, (h .state, (sz, (a, (xf, (xr, tt))))), (mach-state (h .state) ∷ [], (number sz ∷ [], (va ∷ [], (vf ∷ [], (vr ∷ [], tt))))))
 
     answer-asks : IsDevice h → ent 𝓤 (⋆ 𝓤 H A (((‵ (flft κ₁ q₁) ⊛ ‵ ftrue) ⊛ (‵ (flft κ₂ q₂) ⊛ ‵ ftrue)) ∷ Bytes ∷ Reply ∷ [])) (tripleOf 𝓤 H A answer.signature (answer.spec 𝓤 H A at-mem run) .pre (to-answer, tt))
     answer-asks was =

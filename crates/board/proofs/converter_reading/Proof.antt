@@ -34,7 +34,7 @@ use Rattle.converter.specs.declared.Outcome.{Outcome}
 use Rattle.converter.proofs.Entries.{refuses, filters, takes, joins}
 use Rattle.converter.proofs.Device as D
 use Rattle.converter.proofs.Device.Laws as D′
-use Rattle.board.proofs.Walk.{_≡_, refl, sym, ap, _∙_, ℕ, _<_, _^_, [], _∷_, List, lit<, is-true, is-false, ℤ, URA, fullShare, named, w8, w64, tyBool, rawTy, Val, vint, vptr, vstruct, ofZ, SProp, ent, sep, emp, id⊢, GName, Lft, Share, ftrue, fat, flft, fobs, fbor, Memory, Routine, Heap, Calls, Loops, WpFn, Tables, Atoms, Fun, factI, givenOf, tables, tablesOf, Given, ‵, atRet, _⊛_, _$_, _∵_, !, qed, by, move, keep, drop, use1, split, join, rewrite, fsplit, fsplit3, fjoin, fjoin3, feqI, suffices, frame, done, look, init, stop, hop, fld, from, load, lit, of-opd, and-then, no-more, assigns, land, first, branches, skips, exec, returns, returns-within, enter, alloc1, alloc0, params1, pass1, pass0, look-in, store-in, Body, FmC, fmOf, WpFn-mono, owns, Is, Ises, Are, Makess, shows, mem, uint-vals, uint-tells, uint-makes, bool-lawful, sint-vals, sint-tells, sint-makes, sint-lawful, u8, i64, RefT, MutRef, ptr-vals, mut-tells, plain, only, opens, closes, owned, facts, nothing, spelt, Triple, onEntry, Meets, tripleOf, entered, cited, says, needs, Stays, stay-ref, stay-none, walkOf, AllGo, goes-none, goes-ref, Walks, ends-at, walked, walk-meets, yes}
+use Rattle.board.proofs.Walk.{_≡_, refl, sym, ap, _∙_, ℕ, _<_, _^_, [], _∷_, List, lit<, is-true, is-false, ℤ, URA, fullShare, named, w8, w64, tyBool, rawTy, Val, vint, vptr, vstruct, ofZ, SProp, ent, sep, emp, id⊢, GName, Lft, Share, ftrue, fat, flft, fobs, fbor, Memory, Routine, Heap, Calls, Loops, WpFn, Tables, Atoms, Fun, factI, givenOf, tables, tablesOf, Given, ‵, atRet, _⊛_, _$_, _∵_, !, qed, by, move, keep, drop, use1, split, join, rewrite, fsplit, fsplit3, fjoin, fjoin3, feqI, suffices, frame, done, look, init, stop, hop, fld, from, load, lit, of-opd, and-then, no-more, assigns, land, first, branches, skips, exec, returns, returns-within, enter, alloc1, alloc0, params1, pass1, pass0, look-in, store-in, Body, FmC, fmOf, WpFn-mono, owns, Is, shows, mem, uint-vals, uint-tells, uint-makes, bool-lawful, sint-vals, sint-tells, sint-makes, sint-lawful, u8, i64, RefT, MutRef, ptr-vals, mut-tells, plain, only, opens, closes, owned, facts, nothing, spelt, Triple, onEntry, Meets, tripleOf, entered, cited, says, needs, Stays, stay-ref, stay-none, walkOf, AllGo, goes-none, goes-ref, Walks, ends-at, walked, walk-meets, yes}
 use Rattle.board.proofs.Call.{calls-plain, facts-made}
 use Rattle.board.proofs.Locals.{frees-all, bare, holding}
 use Rattle.board.proofs.Kept.{mach, mach-state, mach-cell, mach-temperature, mach-linearity, mach-system, mach-filter, mach-readings, five, three-are, mach-five, tells, state-tells, known, state-typed, five-is, readings-is, state-is, restated}
@@ -44,9 +44,6 @@ use Rattle.board.proofs.converter_reading as f
 use Rattle.board.proofs.converter_reading.Statement as stated
 use Rattle.board.proofs.converter_reading.Code as code
 use Rattle.board.proofs.converter_reading.Code.Mir.{t-3}
-
-abbrev Arg : Type 0
-Arg = RefT Device × (ℤ × (ℤ × (ℕ × Unit {0})))
 
 abbrev stayed : Stays (f.ended .signature .params) (f.ended .kept)
 stayed = (stay-ref (0 ∷ []) tt (plain (λ _. D.the-row)), (stay-none (λ _. i64) yes, (stay-none (λ _. i64) yes, (stay-none (λ _. u8) yes, tt))))
@@ -58,17 +55,11 @@ record Known {M : Type 1} (𝓤 : URA M) (H : Heap 𝓤) (A : Atoms 𝓤) (mem :
   takes-in : Triple 𝓤 (C take-def.name) (tripleOf 𝓤 H A take.signature (take.spec 𝓤 H A mem run))
 
 module _ {M : Type 1} (𝓤 : URA M) (H : Heap 𝓤) (A : Atoms 𝓤) (W : Given 𝓤 H A) (at-mem : Memory → SProp 𝓤) (run : Routine → Fun 𝓤) (κ : Lft) (q : Share) (b o : ℕ) (γ : GName) (h : Device) (z t : ℤ) (n : ℕ) (z-is : Is i64 z (vint w64 (ofZ w64 z) ∷ [])) (t-is : Is i64 t (vint w64 (ofZ w64 t) ∷ [])) (n-fits : n < 2 ^ 8) (reached : Reached h) where
-  abbrev x : Arg
+  abbrev x : RefT Device × (ℤ × (ℤ × (ℕ × Unit {0})))
   x = (record { ptr = (b, o); name = γ; now = h }, (z, (t, (n, tt))))
 
   abbrev numbers : List Val × (List Val × (List Val × Unit {0}))
   numbers = (vint w64 (ofZ w64 z) ∷ [], (vint w64 (ofZ w64 t) ∷ [], (vint w8 n ∷ [], tt)))
-
-  abbrev numbers-make : Makess 𝓤 H A (i64 ∷ i64 ∷ u8 ∷ []) (Ises (i64 ∷ i64 ∷ u8 ∷ []))
-  numbers-make = (sint-makes 𝓤 H A W w64, (sint-makes 𝓤 H A W w64, (uint-makes 𝓤 H A W w8, tt)))
-
-  abbrev numbers-are : Are (i64 ∷ i64 ∷ u8 ∷ []) (Ises (i64 ∷ i64 ∷ u8 ∷ [])) (z, (t, (n, tt))) numbers
-  numbers-are = (z-is, (t-is, ((refl, n-fits), tt)))
 
   abbrev at : List Val × (List Val × (List Val × (List Val × Unit {0})))
   at = (vptr b o ∷ [], numbers)
@@ -96,7 +87,7 @@ module _ {M : Type 1} (𝓤 : URA M) (H : Heap 𝓤) (A : Atoms 𝓤) (W : Given
         pass1 ! (init ! 26 refl (tt, tt)) $ pass1 ! (init ! 24 refl (sint-lawful 𝓤 H A W w64 .typed z _ z-is .0)) $ pass1 ! (init ! 22 refl (sint-lawful 𝓤 H A W w64 .typed t _ t-is .0)) $ pass1 ! (init ! 20 refl (tt, record { fits = n-fits })) $ pass0 ! $
         move ! (31 ∷ []) $ fsplit ! $ fsplit3 ! $ drop ! $ move ! (2 ∷ []) $ drop ! $ move ! (32 ∷ []) $ split ! $ move ! (2 ∷ 3 ∷ 0 ∷ []) $
         -- [obs; the borrow; its token; true; _14; …; _1; …; room for _0; …]
-        calls-plain ! fm test.ended (test.clauses 𝓤 H A at-mem run) (known-of .tests) (tt, tt, tt, (z, (t, (n, tt))), numbers) tt (id⊢ 𝓤 _) numbers-make numbers-are (id⊢ 𝓤 _) (λ r. r ≡ badReading z t n) (λ r e. id⊢ 𝓤 _)
+        calls-plain ! fm test.ended (test.clauses 𝓤 H A at-mem run) (known-of .tests) (tt, tt, tt, (z, (t, (n, tt))), numbers) tt (id⊢ 𝓤 _) (sint-makes 𝓤 H A W w64, (sint-makes 𝓤 H A W w64, (uint-makes 𝓤 H A W w8, tt))) (z-is, (t-is, ((refl, n-fits), tt))) (id⊢ 𝓤 _) (λ r. r ≡ badReading z t n) (λ r e. id⊢ 𝓤 _)
         (and-then ! (load ! (from ! (stop !)) (look ! 29 refl)) (and-then ! (load ! (from ! (stop !)) (look ! 27 refl)) (and-then ! (load ! (from ! (stop !)) (look ! 25 refl)) (no-more !)))) (λ v bad bad-is is.
         land ! (from ! (stop !)) (init ! 20 refl (bool-lawful 𝓤 H A W .typed bad _ is .0)) $ rewrite ! 20 (λ (u : Val). ‵ (fat fullShare tyBool l₆ 0 u)) (ap only is) refl $
         first ! $ branches ! (load ! (from ! (stop !)) (look ! 20 refl))
