@@ -2,15 +2,14 @@
 -- held at. Assumes nothing.
 use mathlib.Core.Path.{_≡_, refl, sym, _∙_, ap}
 use mathlib.Core.Bool.{Bool, true, false, _&&_}
-use Prim.Native.Nat.{ℕ, zero, suc, _/_, _%_, _<_}
-use native.Mathlib.Omega.{arith}
-use lib.Arith.{bin-ind}
-use lib.Bits.{bitOr, or-zero-l, or-zero-r, or-comm, or-shr, or-mod}
+use Prim.Native.Nat.{ℕ}
+use lib.Bits.{bitOr, or-zero-r, or-comm}
 use lib.Dec.{eqb}
 use lib.IntN.{ℤ}
 use lib.Signed.{ltZ, leZ, _<ℤ_, leZ-yes}
 use Rattle.integers.proofs.Parts.{ints}
 use Rattle.integers.proofs.Order.{is-true, lt-yes, no-lt}
+use Rattle.integers.proofs.Bits.{or-assoc}
 use Rattle.integers.proofs.Machine.{and-left, and-right}
 use Rattle.figures.specs.declared.Cell.{Cell}
 use Rattle.figures.specs.declared.System.{System}
@@ -72,27 +71,6 @@ module _ {x h : ℤ} (under over : ℕ) where
       by false false p q = let there : h ≡ x = rw (p, q) at k in absurd (omega ints)
 
 -- ---- the order in which the bits are joined
-
-digits : (x y z : ℕ) → x < 2 → y < 2 → z < 2 → bitOr (bitOr x y) z ≡ bitOr x (bitOr y z)
-digits zero y z a b c = refl
-digits (suc zero) zero z a b c = refl
-digits (suc zero) (suc zero) zero a b c = refl
-digits (suc zero) (suc zero) (suc zero) a b c = refl
-digits (suc zero) (suc zero) (suc (suc z)) a b c = absurd (omega arith)
-digits (suc zero) (suc (suc y)) z a b c = absurd (omega arith)
-digits (suc (suc x)) y z a b c = absurd (omega arith)
-
-by-digits : (m n : ℕ) → m / 2 ≡ n / 2 → m % 2 ≡ n % 2 → m ≡ n
-by-digits m n h k = omega arith
-
-or-assoc : (a b c : ℕ) → bitOr (bitOr a b) c ≡ bitOr a (bitOr b c)
-or-assoc a =
-    bin-ind (λ (n : ℕ). (b c : ℕ) → bitOr (bitOr n b) c ≡ bitOr n (bitOr b c))
-    (λ b c. ap (λ (k : ℕ). bitOr k c) (or-zero-l b) ∙ sym (or-zero-l (bitOr b c)))
-    (λ n ih b c. by-digits (bitOr (bitOr n b) c) (bitOr n (bitOr b c))
-    (or-shr (bitOr n b) c 1 ∙ ap (λ (k : ℕ). bitOr k (c / 2)) (or-shr n b 1) ∙ ih (b / 2) (c / 2) ∙ sym (or-shr n (bitOr b c) 1 ∙ ap (bitOr (n / 2)) (or-shr b c 1)))
-    (or-mod (bitOr n b) c 1 ∙ ap (λ (k : ℕ). bitOr k (c % 2)) (or-mod n b 1) ∙ digits (n % 2) (b % 2) (c % 2) (omega arith) (omega arith) (omega arith) ∙ sym (or-mod n (bitOr b c) 1 ∙ ap (bitOr (n % 2)) (or-mod b c 1))))
-    a
 
 pub stat-joined : (c : Cell) (s : System) (elec temp cell system : ℤ) (integrity : ℕ)
     → bitOr (inputBits elec temp integrity) (bitOr (range (c .cmin) (c .cmax) cell 64 128) (range (s .smin) (s .smax) system 256 512)) ≡ statOf c s elec temp cell system integrity

@@ -24,6 +24,8 @@
 --    (depth: two for each nested operation, and two more). Where the bounds are no numerals, `simp (toZ-ofZ, f, g)` strips the
 --    bits by proofs f, g that the plain values fit, and `fits!` makes those: arithmetic's `round_div` goes that way.
 --
+-- Beside these, Bits: or and exclusive or are associative.
+--
 -- `≤ℤ`, `<ℤ` and `within` bind tighter than + and ·: write (a +ℤ b) ≤ℤ c.
 pub mod Parts
 pub mod Difference
@@ -32,4 +34,5 @@ pub mod Magnitude
 pub mod Ring
 pub mod Machine
 pub mod Division
+pub mod Bits
 mod Examples

@@ -8,7 +8,8 @@ use native.Mathlib.Omega.{arith}
 use lib.Bits.{bitXor, xor-zero-r, xor-comm, xor-lt, xor-shr, xor-mod, xor-shifted, shifted-half, shifted-even}
 use lib.Dec.{eqb}
 use Rattle.modbus.specs.Checksum.{shifted, shifts, taken}
-use Rattle.modbus.proofs.Xor.{xor-assoc, xor-swap, xor-digits, xor-zero}
+use Rattle.integers.proofs.Bits.{xor-assoc}
+use Rattle.modbus.proofs.Xor.{xor-swap, xor-digits, xor-zero}
 
 -- the bit that drops out, as a factor
 shifted-is : (c : ℕ) → shifted c ≡ bitXor (c / 2) (c % 2 * 0xA001)
