@@ -14,7 +14,7 @@ use Rattle.integers.proofs.Machine.{and-left, and-right}
 use Rattle.figures.specs.declared.Cell.{Cell}
 use Rattle.figures.specs.declared.System.{System}
 use Rattle.compensation.specs.Hold.{hold}
-use Rattle.compensation.specs.Stat.{weigh, range, tempUnder, tempOver, elecUnder, elecOver, statOf, inputBits, HeldBits}
+use Rattle.compensation.specs.Stat.{weigh, range, tempUnder, tempOver, elecUnder, elecOver, statOf, inputBits, HeldBits, HeldStat}
 
 -- ---- the inputs
 
@@ -72,7 +72,7 @@ module _ {x h : ℤ} (under over : ℕ) where
 
 -- ---- the order in which the bits are joined
 
-pub stat-joined : (c : Cell) (s : System) (elec temp cell system : ℤ) (integrity : ℕ)
+stat-joined : (c : Cell) (s : System) (elec temp cell system : ℤ) (integrity : ℕ)
     → bitOr (inputBits elec temp integrity) (bitOr (range (c .cmin) (c .cmax) cell 64 128) (range (s .smin) (s .smax) system 256 512)) ≡ statOf c s elec temp cell system integrity
 unfolding inputBits statOf
 stat-joined c s elec temp cell system integrity =
@@ -80,3 +80,10 @@ stat-joined c s elec temp cell system integrity =
   where
     by : (t e f c s : ℕ) → bitOr (bitOr t (bitOr e f)) (bitOr c s) ≡ bitOr t (bitOr e (bitOr c (bitOr s f)))
     by t e f c s = or-assoc t (bitOr e f) (bitOr c s) ∙ ap (bitOr t) (or-assoc e f (bitOr c s) ∙ ap (bitOr e) (or-comm f (bitOr c s) ∙ or-assoc c s f))
+
+module _ (elec temp x h y k : ℤ) (integrity : ℕ) {f : ℕ} (f-is : f ≡ inputBits elec temp integrity) where
+  pub stat-held : {p q : ℕ} → HeldBits x h 64 128 p → HeldBits y k 256 512 q → HeldStat elec temp integrity x h y k (bitOr f (bitOr p q))
+  stat-held p q c s l m e d = rw (f-is, p (c .cmin) (c .cmax) l e, q (s .smin) (s .smax) m d) (stat-joined c s elec temp x y integrity)
+
+  pub stat-unmoved : x ≡ h → y ≡ k → HeldStat elec temp integrity x h y k f
+  stat-unmoved e d c s l m i j = sym (or-zero-r f) ∙ stat-held (unmoved-none 64 128 e) (unmoved-none 256 512 d) c s l m i j

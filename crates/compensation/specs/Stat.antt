@@ -97,3 +97,8 @@ inputBits elec temp integrity = bitOr (range tempUnder tempOver temp 4 8) (bitOr
 -- n are the bits of a raw value x that was held at h, by whichever limits
 abbrev pub HeldBits : ℤ → ℤ → ℕ → ℕ → ℕ → Type 0
 HeldBits x h under over n = (lo hi : ℤ) → lo ≤ℤ hi → h ≡ hold lo hi x → n ≡ range lo hi x under over
+
+-- n is STAT, of a raw cell x that was held at h and a raw system y at k, by whichever figures
+abbrev pub HeldStat : ℤ → ℤ → ℕ → ℤ → ℤ → ℤ → ℤ → ℕ → Type 0
+HeldStat elec temp integrity x h y k n =
+    (c : Cell) (s : System) → c .cmin ≤ℤ c .cmax → s .smin ≤ℤ s .smax → h ≡ hold (c .cmin) (c .cmax) x → k ≡ hold (s .smin) (s .smax) y → n ≡ statOf c s elec temp x y integrity

@@ -2,7 +2,7 @@
 ghost use mathlib.Core.Path.{_≡_};
 ghost use mathlib.Core.Bool.{_&&_};
 ghost use lib.Signed.{leZ};
-ghost use Rattle.compensation.specs.Stat.{weigh, range, inputBits, HeldBits};
+ghost use Rattle.compensation.specs.Stat.{weigh, range, inputBits, HeldBits, HeldStat};
 
 pub const TEMPUR: u16 = 4;
 
@@ -45,7 +45,7 @@ fn is_within(lo: i64, hi: i64, x: i64) -> bool
 }
 
 // The bits of ELEC, TEMP and the integrity byte. Nearly every reading has none of them, and leaves after three tests.
-pub fn input_bits(elec: i64, temp: i64, integrity: u8) -> u16
+fn input_bits(elec: i64, temp: i64, integrity: u8) -> u16
     ensures { λ r. ⌜ r ≡ inputBits elec temp integrity ⌝ }
 {
     if is_within(-3_276_800, 5_898_240, temp)
@@ -60,7 +60,7 @@ pub fn input_bits(elec: i64, temp: i64, integrity: u8) -> u16
 }
 
 // The bits of a raw value, from what it was held at: it was moved exactly where it is beyond a limit, upwards where it is below.
-pub fn held_bits(raw: i64, held: i64, under: u16, over: u16) -> u16
+fn held_bits(raw: i64, held: i64, under: u16, over: u16) -> u16
     ensures { λ r. ⌜ HeldBits raw held under over r ⌝ }
 {
     if raw == held {
@@ -70,4 +70,26 @@ pub fn held_bits(raw: i64, held: i64, under: u16, over: u16) -> u16
         return under;
     }
     over
+}
+
+// The bits of a reading, of which `cell` and `system` are the raw values, held at `craw` and `sraw`. Nearly every reading is held
+// nowhere, and has those of its inputs alone.
+pub fn stat_bits(
+    elec: i64,
+    temp: i64,
+    integrity: u8,
+    cell: i64,
+    craw: i64,
+    system: i64,
+    sraw: i64,
+) -> u16
+    ensures { λ r. ⌜ HeldStat elec temp integrity cell craw system sraw r ⌝ }
+{
+    if cell == craw && system == sraw {
+        return input_bits(elec, temp, integrity);
+    }
+    let of_input = input_bits(elec, temp, integrity);
+    let of_cell = held_bits(cell, craw, CRAWUR, CRAWOR);
+    let of_system = held_bits(system, sraw, SYSUR, SYSOR);
+    of_input | (of_cell | of_system)
 }

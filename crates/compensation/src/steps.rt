@@ -9,12 +9,7 @@ ghost use Rattle.compensation.specs.Hold.{hold};
 ghost use Rattle.compensation.specs.Reading.{one, scaled, inputOf};
 ghost use Rattle.compensation.specs.Values.{valuesAt, StepsInput, GainInput, AdjustInput, CorrectInput, SystemInput, NetInput};
 use crate::filter::filter_input;
-use crate::stat::CRAWOR;
-use crate::stat::CRAWUR;
-use crate::stat::SYSOR;
-use crate::stat::SYSUR;
-use crate::stat::held_bits;
-use crate::stat::input_bits;
+use crate::stat::stat_bits;
 use crate::tables::adjustments;
 use crate::tables::correction;
 use figures::Calibration;
@@ -83,10 +78,15 @@ pub fn compensate(
     let raw_system = scaled_system(system, corrected_cell);
     let sraw = hold_system(system, raw_system);
     let sys = net(system, sraw);
-    let of_input = input_bits(input.elec, temp, integrity);
-    let of_cell = held_bits(raw_cell, craw, CRAWUR, CRAWOR);
-    let of_system = held_bits(raw_system, sraw, SYSUR, SYSOR);
-    let stat = of_input | (of_cell | of_system);
+    let stat = stat_bits(
+        input.elec,
+        temp,
+        integrity,
+        raw_cell,
+        craw,
+        raw_system,
+        sraw,
+    );
     Values {
         craw,
         cell: corrected_cell,

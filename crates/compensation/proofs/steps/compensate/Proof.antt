@@ -2,7 +2,6 @@
 -- meet what the next one asks. Assumes nothing.
 use mathlib.Core.Path.{_≡_, refl}
 use Prim.Native.Nat.{ℕ}
-use lib.Bits.{bitOr}
 use lib.IntN.{ℤ}
 use mir.Syntax.{w64}
 use mir.Val.{toZ, ofZ}
@@ -15,10 +14,9 @@ use Rattle.figures.specs.declared.Linearity.{Linearity}
 use Rattle.figures.specs.declared.System.{System}
 use Rattle.compensation.specs.declared.steps.Input.{Input}
 use Rattle.compensation.specs.Reading.{yAt, rawCellAt, crawAt, cellAt, rawSystemAt, srawAt, sysAt}
-use Rattle.compensation.specs.Stat.{range, inputBits}
+use Rattle.compensation.specs.Stat.{statOf}
 use Rattle.compensation.specs.Values.{valuesAt}
 use Rattle.compensation.proofs.Magnitudes.{Magnitudes, magnitudes}
-use Rattle.compensation.proofs.StatBits.{stat-joined}
 use Rattle.compensation.proofs.steps.compensate.Statement.{statement}
 use Rattle.compensation.proofs.steps.compensate.Tie as tie
 
@@ -111,23 +109,21 @@ net-requires c κs =
 
 -- ---- the values, put together
 
-built : (c : Cell) (l : Linearity) (s : System) (i : Input) (temp : ℤ) (integrity : ℕ) {w x y z : ℤ} {f p q : ℕ} → w ≡ crawAt c i → x ≡ cellAt c l i → y ≡ srawAt c l s i → z ≡ sysAt c l s i
-    → f ≡ inputBits (i .elec) temp integrity → p ≡ range (c .cmin) (c .cmax) (rawCellAt c i) 64 128 → q ≡ range (s .smin) (s .smax) (rawSystemAt c l s i) 256 512
-    → record { craw = w; cell = x; sraw = y; sys = z; stat = bitOr f (bitOr p q) } ≡ valuesAt c l s i temp integrity
+built : (c : Cell) (l : Linearity) (s : System) (i : Input) (temp : ℤ) (integrity : ℕ) {w x y z : ℤ} {n : ℕ} → w ≡ crawAt c i → x ≡ cellAt c l i → y ≡ srawAt c l s i → z ≡ sysAt c l s i
+    → n ≡ statOf c s (i .elec) temp (rawCellAt c i) (rawSystemAt c l s i) integrity → record { craw = w; cell = x; sraw = y; sys = z; stat = n } ≡ valuesAt c l s i temp integrity
 unfolding valuesAt
-built c l s i temp integrity w x y z f p q = rw (w, x, y, z, f, p, q, stat-joined)
+built c l s i temp integrity w x y z n = rw (w, x, y, z, n)
 
 returns : tie.Need-returns
 unfolding crawAt srawAt
 returns c =
-    let n = c .before .before .before .before in
+    let n = c .before .before in
     let s = n .before .before .before .before .before .before .before .before .before .before in
     let a = s .args in
     built (a .cell) (a .linearity) (a .system) (a .input) (a .temp) (a .integrity)
     (craw-held (n .before .before .before .before)) (cell-held (n .before .before .before)) (sraw-held (n .before)) (sys-held n)
-    (simp (elec-held s, toZ-ofZ w64 (a .temp) (s .fits .temp)) at (c .before .before .input-bits .ensures))
-    ((simp (raw-cell-held (n .before .before .before .before .before), craw-held (n .before .before .before .before)) at (c .before .held-bits .ensures)) (a .cell .cmin) (a .cell .cmax) (<-≤ (s .pre .cell-ok .ordered)) refl)
-    ((simp (raw-system-held (n .before .before), sraw-held (n .before)) at (c .held-bits2 .ensures)) (a .system .smin) (a .system .smax) (<-≤ (s .pre .system-ok .ordered)) refl)
+    ((simp (elec-held s, toZ-ofZ w64 (a .temp) (s .fits .temp), raw-cell-held (n .before .before .before .before .before), craw-held (n .before .before .before .before), raw-system-held (n .before .before), sraw-held (n .before)) at (c .stat-bits .ensures))
+    (a .cell) (a .system) (<-≤ (s .pre .cell-ok .ordered)) (<-≤ (s .pre .system-ok .ordered)) refl refl)
 
 pub compensate-spec : {M : Type 1} → statement M
 compensate-spec =
@@ -140,7 +136,5 @@ compensate-spec =
     scaled-system-requires
     (λ c κs. search needs)
     net-requires
-    (λ c κs. search needs)
-    (λ c κs. search needs)
     (λ c κs. search needs)
     returns)
