@@ -3,9 +3,11 @@
 // `converter`'s entries, read at entry and exit.
 ghost use mathlib.Core.Path.{_≡_};
 ghost use Rattle.state.specs.Report.{reported};
+ghost use Rattle.converter.specs.Call.{obeyed};
 ghost use Rattle.converter.specs.Reached.{Reached, Making, Reading, Serving};
 use converter::Answered;
 use converter::Device;
+use modbus::frame::Frame;
 use state::Reported;
 
 // A device of a calibration sheet and a station, into a record that may hold anything before: 0, or 8, then 1 to 7. A refused making
@@ -61,12 +63,19 @@ pub extern "C" fn converter_frame(device: &mut Device, frame: &[u8], reply: &mut
         frame,
         reply,
     );
+    obey(device, asked);
+    answered
+}
+
+// A judged frame obeyed: what it can change is stored, and nothing else.
+fn obey(device: &mut Device, asked: Frame)
+    ensures { λ _. ⌜ now (device .exit) ≡ obeyed (now (device .entry)) asked ⌝ }
+{
     if state::changes_state(asked) {
         device.state = state::state_after(device.state, asked);
     } else if state::changes_zero(asked) {
         device.setup.figures.system.sz = state::zero_after(device.setup.figures.system.sz, asked);
     }
-    answered
 }
 
 // SYS, PEAK, TROF and CELL of the readings: 0, or 10, and 0.0 each. The record stays as it is.
