@@ -3,5 +3,6 @@ mod Kept
 mod Record
 mod Outcome
 mod Call
+mod Lent
 mod Locals
 mod Walk

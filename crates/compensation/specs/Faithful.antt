@@ -6,7 +6,7 @@ use lib.IntN.{ℤ, pos, natAbs, _-ℤ_, _*ℤ_}
 use lib.Signed.{_<ℤ_}
 use mathlib.Core.Path.{_≡_}
 use Rattle.integers.specs.Within.{_within_}
-use Rattle.arithmetic.specs.Fraction.{Fraction}
+use Rattle.arithmetic.specs.Fraction.{Near, Fraction}
 use Rattle.figures.specs.Acceptable.{Acceptable}
 use Rattle.figures.specs.declared.Calibration.{Calibration}
 use Rattle.compensation.specs.Filter.{elecMost}
@@ -15,10 +15,9 @@ use Rattle.compensation.specs.Stat.{Raised, tempUnder, tempOver, elecUnd
 use Rattle.compensation.specs.Values.{valuesOf}
 use Rattle.compensation.specs.declared.steps.Values.{Values}
 
--- q is a fraction, and x lies within k steps of it: |x − q| ≤ k, multiplied out
-pub record Within (k : ℕ) (x : ℤ) (q : Fraction) : Type 0 where
-  pub above : pos 0 <ℤ q .low
-  pub near : natAbs (x *ℤ q .low -ℤ q .top) ≤ k * natAbs (q .low)
+-- x lies within k steps of q
+abbrev pub Within : ℕ → ℤ → Fraction → Type 0
+Within k x q = Near k 1 x q
 
 -- q lies farther than k steps from x
 abbrev pub Farther : ℕ → ℤ → Fraction → Type 0

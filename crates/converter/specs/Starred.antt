@@ -8,7 +8,7 @@ use lib.IntN.{ℤ, pos, negℤ}
 use lib.Ieee.{Float, fin, binary32, toBits, ofBits}
 use Rattle.arithmetic.specs.Round.{roundDiv}
 use Rattle.arithmetic.specs.Table.{Point, interpolated}
-use Rattle.figures.specs.Default.{defaultSheet, noTemperature, noLinearity}
+use Rattle.figures.specs.Default.{defaultSheet, noTemperature, apart}
 use Rattle.figures.specs.declared.Calibration.{Calibration}
 use Rattle.figures.specs.declared.Filter.{Filter}
 use Rattle.sheet.specs.Read.{sheetNumber}
@@ -41,16 +41,6 @@ gainOf20 g = record {
 -- "FFST 4"
 abbrev pub fourSteps : ℤ → Filter
 fourSteps fflv = record { fflv = fflv; ffst = pos 4 }
-
--- "CLX 400 apart", in the default sheet
-abbrev pub apart : ℤ → Calibration
-apart clk = record {
-  cell = defaultSheet .cell;
-  temperature = defaultSheet .temperature;
-  linearity = record { cln = 2; points = noLinearity ∷ record { clx = pos 400; clk = clk } ∷ noLinearity ∷ noLinearity ∷ noLinearity ∷ noLinearity ∷ noLinearity ∷ [] };
-  system = defaultSheet .system;
-  filter = defaultSheet .filter;
-}
 
 -- ---- a case: its arguments, and last its results
 

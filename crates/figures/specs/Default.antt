@@ -2,7 +2,7 @@
 -- filter 0 and 0" (01, "The calibration sheet").
 use mathlib.Core.List.{[], _∷_}
 use Prim.Native.Nat.{_*_}
-use lib.IntN.{pos, negℤ}
+use lib.IntN.{ℤ, pos, negℤ}
 use Rattle.figures.specs.Limits.{unit}
 use Rattle.figures.specs.declared.TemperaturePoint.{TemperaturePoint}
 use Rattle.figures.specs.declared.LinearityPoint.{LinearityPoint}
@@ -21,4 +21,14 @@ defaultSheet = record {
   linearity = record { cln = 2; points = noLinearity ∷ record { clx = pos (100 * 65536); clk = pos 0 } ∷ noLinearity ∷ noLinearity ∷ noLinearity ∷ noLinearity ∷ noLinearity ∷ [] };
   system = record { sofs = pos 0; sgai = pos unit; smin = negℤ (pos (150 * 65536)); smax = pos (150 * 65536); sz = pos 0 };
   filter = record { fflv = pos 0; ffst = pos 0 };
+}
+
+-- "CLX 400 apart" (01, "Edges"), in the default sheet, and CLK this far
+abbrev pub apart : ℤ → Calibration
+apart clk = record {
+  cell = defaultSheet .cell;
+  temperature = defaultSheet .temperature;
+  linearity = record { cln = 2; points = noLinearity ∷ record { clx = pos 400; clk = clk } ∷ noLinearity ∷ noLinearity ∷ noLinearity ∷ noLinearity ∷ noLinearity ∷ [] };
+  system = defaultSheet .system;
+  filter = defaultSheet .filter;
 }

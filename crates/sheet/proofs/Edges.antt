@@ -4,10 +4,9 @@ use mathlib.Core.List.{List, [], _∷_, _++_}
 use Prim.Native.Nat.{ℕ}
 use lib.IntN.{pos, negℤ}
 use lib.ListN.{length, take, drop, set}
-use Rattle.figures.specs.Default.{defaultSheet, noLinearity}
+use Rattle.figures.specs.Default.{defaultSheet, apart}
 use Rattle.figures.specs.Unused.{unusedZero}
 use Rattle.figures.proofs.Default.{default-representable, default-acceptable}
-use Rattle.figures.specs.declared.Calibration.{Calibration}
 use Rattle.sheet.specs.Bytes.{signedOf, figureAt, figureBytes}
 use Rattle.sheet.specs.Judge.{shortOf, wrongCount, beyond, notBelow, tooSteep, trailing, cellNumber, temperaturePointNumber, temperatureNumber, linearityPointNumber, linearityNumber, systemNumber, filterNumber, sectionsNumber}
 use Rattle.sheet.specs.Read.{cellAt, temperaturePointAt, linearityPointAt, temperatureAt, linearityAt, systemAt, filterAt, figuresOf, sheetNumber, readSheet}
@@ -22,16 +21,6 @@ pub default-read : readSheet bytes ≡ record { number = 0; figures = defaultShe
 unfolding defaultSheet unusedZero
 default-read = written-read defaultSheet default-representable default-acceptable
 
--- the default figures with CLX 400 apart and CLK n apart
-abbrev pub apart : ℕ → Calibration
-apart n = record {
-  cell = defaultSheet .cell;
-  temperature = defaultSheet .temperature;
-  linearity = record { cln = 2; points = noLinearity ∷ record { clx = pos 400; clk = pos n } ∷ noLinearity ∷ noLinearity ∷ noLinearity ∷ noLinearity ∷ noLinearity ∷ [] };
-  system = defaultSheet .system;
-  filter = defaultSheet .filter;
-}
-
 pub record Edges : Type 0 where
   -- "Two and two points: 173 bytes. 172 is refused with 1, 174 with 7. A point count of 1 is refused with 2."
   pub two-and-two : length bytes ≡ 173
@@ -44,8 +33,8 @@ pub record Edges : Type 0 where
   pub order : sheetNumber (set bytes 60 0) ≡ 4
   pub crossed : sheetNumber (take 25 bytes ++ figureBytes (negℤ (pos 9830400)) ++ drop 33 bytes) ≡ 6
   -- "CLX 400 apart: CLK 100 apart is accepted, 101 is refused with 5."
-  pub gentle : sheetNumber (sheetBytes (apart 100)) ≡ 0
-  pub steep : sheetNumber (sheetBytes (apart 101)) ≡ 5
+  pub gentle : sheetNumber (sheetBytes (apart (pos 100))) ≡ 0
+  pub steep : sheetNumber (sheetBytes (apart (pos 101))) ≡ 5
   -- "for each figure 1, then 3": an earlier bad figure counts before a later missing one
   pub left-to-right : sheetNumber (take 100 (set bytes 8 1)) ≡ 3
 

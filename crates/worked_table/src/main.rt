@@ -1,7 +1,6 @@
 // Prints 001's worked temperature table (its chapter 6), interpolated: for some temperatures in °C the offset o, in steps, and
 // the gain adjustment g, in 1/2^28.
 ghost use mathlib.Core.Path.{_≡_};
-ghost use lib.IntN.{natAbs};
 ghost use Rattle.integers.specs.Within.{_within_};
 use libc::STDOUT_FILENO;
 
@@ -41,15 +40,5 @@ fn print_signed(n: i64) {
     if n < 0 {
         io::write_all(STDOUT_FILENO, b"-");
     }
-    io::print_decimal(STDOUT_FILENO, magnitude(n));
-}
-
-// |n|. One is added before the sign is turned, and again after it, since the least i64 has no negation.
-fn magnitude(n: i64) -> u64
-    ensures { λ r. ⌜ r ≡ natAbs n ⌝ }
-{
-    if n < 0 {
-        return -(n + 1) as u64 + 1;
-    }
-    n as u64
+    io::print_decimal(STDOUT_FILENO, arithmetic::magnitude(n));
 }

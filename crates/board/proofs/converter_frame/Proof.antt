@@ -10,7 +10,6 @@ use Rattle.modbus.proofs.frame.judge as ask
 use Rattle.modbus.proofs.frame.judge.Symbol as ask-def
 use Rattle.modbus.proofs.frame.judge.Met as ask-thm
 use Rattle.state.specs.Register.{answered}
-use Rattle.state.proofs.State as S
 use Rattle.state.proofs.State.Laws as S′
 use Rattle.converter.specs.Call.{obeyed}
 use Rattle.converter.specs.Reached.{Reached, Answering, Serving}
@@ -24,10 +23,11 @@ use Rattle.converter.proofs.bus.Answered.Laws as B′
 use Rattle.converter.proofs.answer as answer
 use Rattle.converter.proofs.answer.Symbol as answer-def
 use Rattle.converter.proofs.answer.Met as answer-thm
-use Rattle.board.proofs.Walk.{_≡_, refl, sym, ap, subst, ℕ, _<_, _^_, [], _∷_, List, ℤ, length, URA, fullShare, tyUnit, named, w8, w64, rawTy, WT, hasTy, Val, vint, vptr, SProp, ent, id⊢, GName, Lft, Share, ftrue, fat, flft, fobs, fbor, fres, Memory, Routine, Heap, Calls, Loops, WpFn, Tables, Atoms, Fun, givenOf, tables, tablesOf, Given, Item, group, ‵, _⊛_, ⋆, _$_, _∵_, !, qed, by, move, keep, drop, use1, split, join, fsplit, fsplit3, fjoin, fjoin3, feqL, feqI, suffices, frame, done, look, init, stop, hop, fld, from, load, addr, of-opd, and-then, no-more, assigns, land, returns, enter, alloc1, alloc0, params1, pass1, pass0, agg, whole, sub, look-in, Body, FmC, fmOf, WpFn-mono, owns, Is, shows, mem, uint-makes, sint-makes, sint-lawful, u8, usize, i64, RefT, MutRef, ptr-vals, mut-tells, sliceVal, slice-vals, MutSlice, ShrSlice, Room, finally, mut-slice-tells, shr-slice-tells, shr-slice-copy, plain, shrSliceOf, only, opens, closes, owned, facts, nothing, spelt, Triple, Bound, onEntry, Meets, tripleOf, entered, cited, gave-ref, goes-gave-ref, says, needs, Stays, stay-dropped, gave-slice, walkOf, AllGo, goes-dropped, goes-gave-slice, Walks, ends-at, walked, walk-meets, yes, T}
+use Rattle.board.proofs.Walk.{_≡_, refl, sym, ap, subst, ℕ, [], _∷_, List, length, URA, fullShare, tyUnit, named, w64, rawTy, WT, hasTy, Val, vptr, SProp, ent, id⊢, GName, Lft, Share, ftrue, fat, flft, fres, Memory, Routine, Heap, Calls, Loops, WpFn, Tables, Atoms, Fun, givenOf, tables, tablesOf, Given, Item, group, ‵, _⊛_, ⋆, _$_, _∵_, !, qed, by, move, keep, drop, use1, split, join, fsplit, fsplit3, fjoin, feqL, suffices, frame, done, look, init, stop, hop, fld, from, load, addr, of-opd, and-then, no-more, assigns, land, returns, enter, alloc1, alloc0, params1, pass1, pass0, agg, whole, sub, look-in, FmC, fmOf, WpFn-mono, owns, Is, shows, mem, sint-lawful, u8, RefT, MutRef, ptr-vals, mut-tells, sliceVal, slice-vals, MutSlice, ShrSlice, Room, finally, mut-slice-tells, shr-slice-tells, shr-slice-copy, plain, shrSliceOf, only, opens, closes, owned, facts, nothing, spelt, Triple, onEntry, Meets, tripleOf, entered, cited, gave-ref, goes-gave-ref, says, needs, Stays, stay-dropped, gave-slice, walkOf, AllGo, goes-dropped, goes-gave-slice, Walks, ends-at, walked, walk-meets, yes, T}
 use Rattle.board.proofs.Call.{calls-out, calls-lent}
+use Rattle.board.proofs.Lent.{bytes, to-judge, judge-asks, to-answer, answer-asks, to-obey, obey-asks}
 use Rattle.board.proofs.Locals.{frees-all, holding}
-use Rattle.board.proofs.Kept.{mach, mach-state, IsDevice, tells, state-typed, number, zeroed, rezero-is, state-is, station-fits, sz-is}
+use Rattle.board.proofs.Kept.{mach, mach-state, tells, state-typed, number, zeroed, rezero-is, state-is, station-fits, sz-is}
 use Rattle.board.proofs.Record.{cell-of, apart, together, setup-at, figures-at, station-at, system-at, sz-at, state-at, station-in, sz-in, state-in}
 use Rattle.board.proofs.obey as obey
 use Rattle.board.proofs.obey.Symbol as obey-def
@@ -51,10 +51,6 @@ module _ {M : Type 1} (𝓤 : URA M) (H : Heap 𝓤) (A : Atoms 𝓤) (W : Given
   abbrev room : ℕ
   room = length (xr .now)
 
-  abbrev sz : ℤ
-  sz = h .setup .figures .system .sz
-
-  -- the machine values of the frame and of the reply
   abbrev vf : Val
   vf = sliceVal (xf .ptr) (length (xf .now))
 
@@ -70,19 +66,10 @@ module _ {M : Type 1} (𝓤 : URA M) (H : Heap 𝓤) (A : Atoms 𝓤) (W : Given
   abbrev toks : Item 𝓤
   toks = ‵ (flft κ₁ q₁) ⊛ ‵ (flft κ₂ q₂) ⊛ ‵ ftrue
 
-  abbrev Bytes : Item 𝓤
-  Bytes = ‵ (ShrSlice (named 0) κ₁ u8 .own xf (vf ∷ []))
-
-  abbrev Reply : Item 𝓤
-  Reply = ‵ (MutSlice (named 1) κ₂ u8 .own xr (vr ∷ []))
-
   abbrev Post : Val → SProp 𝓤
   Post = walkOf 𝓤 H A f.ended stayed (f.clauses 𝓤 H A at-mem run) .post (((κ, (κ₁, (κ₂, tt))), (q, (q₁, (q₂, tt))), tt, x, at), tt)
 
-  abbrev Served : Answered → Device → List ℕ → Type 0
-  Served r d zs = Serving h (xf .now) (xr .now) zs (record { number = r .number; length = r .length; device = d })
-
-  exits : (r : Answered) (v : Val) (d : Device) (zs : List ℕ) → Is B.the-row r (v ∷ []) → Served r d zs → length zs ≡ room
+  exits : (r : Answered) (v : Val) (d : Device) (zs : List ℕ) → Is B.the-row r (v ∷ []) → Serving h (xf .now) (xr .now) zs (record { number = r .number; length = r .length; device = d }) → length zs ≡ room
       → ent 𝓤 (⋆ 𝓤 H A (‵ (fres γ (D.the-row .coded .code d)) ∷ (‵ (flft κ q) ⊛ ‵ ftrue) ∷ toks ∷ ‵ (finally u8 (xr .name) zs) ∷ [])) (Post v)
   exits r v d zs is e l =
       qed W (‵ (fres γ (D.the-row .coded .code d)) ∷ (‵ (flft κ q) ⊛ ‵ ftrue) ∷ toks ∷ ‵ (finally u8 (xr .name) zs) ∷ []) ∵
@@ -92,46 +79,9 @@ module _ {M : Type 1} (𝓤 : URA M) (H : Heap 𝓤) (A : Atoms 𝓤) (W : Given
       nothing ! $ move ! (2 ∷ 0 ∷ []) $ fjoin ! $ nothing ! $ fjoin ! $ move ! (1 ∷ 0 ∷ []) $ fjoin ! $
       owned ! B.the-row (Is B.the-row) (LL.makes B.the-type B′.the-plain 𝓤 H A) r (v ∷ []) is $ move ! (1 ∷ 0 ∷ []) $ done !
 
-  -- ---- what each triple binds outside, what it asks, and what it says
-
-  abbrev to-ask : Bound 𝓤 H A ask.signature
-  to-ask = ((κ₁, tt), (q₁, tt), tt, (xf, (room, (h .setup .station, tt))), (vf ∷ [], (vint w64 room ∷ [], (vint w8 (h .setup .station) ∷ [], tt))))
-
-  ask-asks : h .setup .station < 2 ^ 8 → ent 𝓤 (⋆ 𝓤 H A (‵ (flft κ₁ q₁) ∷ Bytes ∷ [])) (tripleOf 𝓤 H A ask.signature (ask.spec 𝓤 H A at-mem run) .pre (to-ask, tt))
-  ask-asks fits =
-      qed W (‵ (flft κ₁ q₁) ∷ Bytes ∷ []) ∵ nothing ! $ move ! (1 ∷ 0 ∷ []) $ join ! $
-      nothing ! $ owned ! u8 (Is u8) (uint-makes 𝓤 H A W w8) (h .setup .station) _ (refl, fits) $ fjoin ! $ owned ! usize (Is usize) (uint-makes 𝓤 H A W w64) room _ (refl, room-r .0) $ fjoin ! $ move ! (2 ∷ 0 ∷ []) $ fjoin ! $ move ! (1 ∷ 0 ∷ []) $ join ! $ frame ! $ done !
-
-  abbrev Asked : Frame → Type 0
-  Asked a = a ≡ judged (xf .now) room (h .setup .station)
-
-  -- what the frame asks, and its machine value
-  module _ (a : Frame) (va : Val) (a-is : Is R.the-row a (va ∷ [])) where
-    abbrev to-answer : Bound 𝓤 H A answer.signature
-    to-answer = ((κ₁, (κ₂, tt)), (q₁, (q₂, tt)), tt, (h .state, (sz, (a, (xf, (xr, tt))))), (mach-state (h .state) ∷ [], (number sz ∷ [], (va ∷ [], (vf ∷ [], (vr ∷ [], tt))))))
-
-    answer-asks : IsDevice h → ent 𝓤 (⋆ 𝓤 H A (((‵ (flft κ₁ q₁) ⊛ ‵ ftrue) ⊛ (‵ (flft κ₂ q₂) ⊛ ‵ ftrue)) ∷ Bytes ∷ Reply ∷ [])) (tripleOf 𝓤 H A answer.signature (answer.spec 𝓤 H A at-mem run) .pre (to-answer, tt))
-    answer-asks was =
-        qed W (((‵ (flft κ₁ q₁) ⊛ ‵ ftrue) ⊛ (‵ (flft κ₂ q₂) ⊛ ‵ ftrue)) ∷ Bytes ∷ Reply ∷ []) ∵ split ! $ split ! $ move ! (1 ∷ []) $ drop ! $ join ! $
-        says ! (record { device = h; reached = reached; state-is = refl; sz-is = refl }) $ frame ! $ nothing ! $ move ! (2 ∷ 0 ∷ []) $ fjoin ! $ move ! (1 ∷ 0 ∷ []) $ fjoin ! $
-        owned ! R.the-row (Is R.the-row) (EL.makes R.the-type R′.the-plain 𝓤 H A) a (va ∷ []) a-is $ fjoin ! $ owned ! i64 (Is i64) (sint-makes 𝓤 H A W w64) sz _ (sz-is h was) $ fjoin ! $
-        owned ! S.the-row (Is S.the-row) (LL.makes S.the-type S′.the-plain 𝓤 H A) (h .state) _ (state-is h was) $ fjoin ! $ done !
-
-    abbrev Replied : Answered → List ℕ → Type 0
-    Replied r zs = Answering (answered (h .state) sz a) (xf .now) (xr .now) zs r
-
-    abbrev to-obey : Bound 𝓤 H A obey.signature
-    to-obey = ((κ, tt), (q, tt), tt, (record { ptr = (b, o); name = γ; now = h }, (a, tt)), (vptr b o ∷ [], (va ∷ [], tt)))
-
-    obey-asks : ent 𝓤 (⋆ 𝓤 H A (‵ (fobs γ (D.the-row .coded .code h)) ∷ ‵ (fbor κ (Body (mem D.the-row) b o γ)) ∷ ‵ (flft κ q) ∷ [])) (tripleOf 𝓤 H A obey.signature (obey.spec 𝓤 H A at-mem run) .pre (to-obey, tt))
-    obey-asks =
-        qed W (‵ (fobs γ (D.the-row .coded .code h)) ∷ ‵ (fbor κ (Body (mem D.the-row) b o γ)) ∷ ‵ (flft κ q) ∷ []) ∵
-        nothing ! $ owned ! R.the-row (Is R.the-row) (EL.makes R.the-type R′.the-plain 𝓤 H A) a (va ∷ []) a-is $ fjoin ! $ move ! (1 ∷ 2 ∷ []) $ feqI ! (List Val) (vptr b o ∷ []) (vptr b o ∷ []) refl $ fjoin3 ! $ fjoin ! $
-        nothing ! $ move ! (2 ∷ 0 ∷ []) $ join ! $ join ! $ frame ! $ done !
-
-    -- the calls together keep the contract
-    served : (r : Answered) (zs : List ℕ) (d : Device) → Asked a → Replied r zs → d ≡ obeyed h a → Served r d zs
-    served r zs d asks replies obeys = rw obeys (serves reached (xf .now) (xr .now) zs asks replies refl refl)
+  -- the calls together keep the contract
+  served : (a : Frame) (r : Answered) (zs : List ℕ) (d : Device) → a ≡ judged (xf .now) room (h .setup .station) → Answering (answered (h .state) (h .setup .figures .system .sz) a) (xf .now) (xr .now) zs r → d ≡ obeyed h a → Serving h (xf .now) (xr .now) zs (record { number = r .number; length = r .length; device = d })
+  served a r zs d asks replies obeys = rw obeys (serves reached (xf .now) (xr .now) zs asks replies refl refl)
 
   module _ (C : Calls 𝓤 H) (Λ : Loops 𝓤 H) (fm : FmC 𝓤 H (W .laws) C) (known-of : Known 𝓤 H A at-mem run C) where
     walk : ent 𝓤 (onEntry 𝓤 H A f.signature (κ, (κ₁, (κ₂, tt))) (q, (q₁, (q₂, tt))) x at) (WpFn 𝓤 H C Λ code.function (vptr b o ∷ vf ∷ vr ∷ []) Post)
@@ -142,38 +92,38 @@ module _ {M : Type 1} (𝓤 : URA M) (H : Heap 𝓤) (A : Atoms 𝓤) (W : Given
         move ! (29 ∷ []) $ fsplit ! $ move ! (1 ∷ []) $ fsplit ! $ move ! (1 ∷ []) $ fsplit ! $ move ! (3 ∷ []) $ fsplit3 ! $ drop ! $ move ! (33 ∷ []) $ split ! $ move ! (2 ∷ 3 ∷ 0 ∷ []) $
         -- [obs; the borrow; its token; the other tokens; the reply; true; the frame; _13; …; room for _0; …]
         opens ! tt D.the-row {h = h} b o (λ vs. spelt ! D.the-row (Is D.the-row) (shows 𝓤 H A D.the-row) (λ d. mach d ∷ []) tells fullShare h vs b o $
-        move ! (1 ∷ []) $ facts ! D.the-row (Is D.the-row) (shows 𝓤 H A D.the-row) h (mach h ∷ []) (λ was. use1 W (‵ (cell-of b o (zeroed (h .setup .figures) (number sz)) (h .setup .station) (mach-state (h .state)))) (apart 𝓤 H A W b o h (rezero-is h sz (h .state))) $
+        move ! (1 ∷ []) $ facts ! D.the-row (Is D.the-row) (shows 𝓤 H A D.the-row) h (mach h ∷ []) (λ was. use1 W (‵ (cell-of b o (zeroed (h .setup .figures) (number (h .setup .figures .system .sz))) (h .setup .station) (mach-state (h .state)))) (apart 𝓤 H A W b o h (rezero-is h (h .setup .figures .system .sz) (h .state))) $
         -- [the record's cell; the open borrow; obs; auth; the other tokens; the reply; true; the frame; _13; …]
         assigns ! (of-opd ! (load ! (from ! (fld ! refl (stop !))) (look-in ! 28 (sub ! 1 refl (whole !))))) (from ! (stop !)) (init ! 22 refl (tt, record { fits = room-r .0 })) $
         assigns ! (of-opd ! (load ! (from ! (hop ! (look ! 32 refl) (fld ! setup-at (fld ! station-at (stop !))))) (look-in ! 0 (station-in ! b o _ _ _)))) (from ! (stop !)) (init ! 20 refl (tt, record { fits = station-fits h was })) $
-        move ! (4 ∷ []) $ split ! $ move ! (8 ∷ []) $ use1 W (Bytes ⊛ Bytes) (shr-slice-copy 𝓤 H A W (named 0) κ₁ u8 .twice xf (vf ∷ [])) $ split ! $ move ! (2 ∷ 0 ∷ []) $ join ! $
+        move ! (4 ∷ []) $ split ! $ move ! (8 ∷ []) $ use1 W (bytes 𝓤 κ₁ xf ⊛ bytes 𝓤 κ₁ xf) (shr-slice-copy 𝓤 H A W (named 0) κ₁ u8 .twice xf (vf ∷ [])) $ split ! $ move ! (2 ∷ 0 ∷ []) $ join ! $
         -- [the token and a copy of the frame; the frame; the reply's token; the record's cell; the open borrow; obs; auth; the reply; true; _13; …]
-        calls-lent ! fm ask.ended (ask.clauses 𝓤 H A at-mem run) (known-of .asks) to-ask tt (ask-asks (station-fits h was)) Asked (λ a e. id⊢ 𝓤 _)
+        calls-lent ! fm ask.ended (ask.clauses 𝓤 H A at-mem run) (known-of .asks) (to-judge 𝓤 H A κ₁ q₁ xf room (h .setup .station)) tt (judge-asks 𝓤 H A W at-mem run κ₁ q₁ xf room (h .setup .station) (room-r .0) (station-fits h was)) (λ a. a ≡ judged (xf .now) room (h .setup .station)) (λ a e. id⊢ 𝓤 _)
         (and-then ! (load ! (from ! (stop !)) (look ! 31 refl)) (and-then ! (load ! (from ! (stop !)) (look ! 23 refl)) (and-then ! (load ! (from ! (stop !)) (look ! 21 refl)) (no-more !)))) (λ va a asked a-is.
         land ! (from ! (stop !)) (init ! 27 refl (EL.lawful R.the-type R′.the-laws 𝓤 H A W tt .typed a _ a-is .0)) $
         assigns ! (of-opd ! (load ! (from ! (hop ! (look ! 33 refl) (fld ! state-at (stop !)))) (look-in ! 3 (state-in ! b o _ _ _)))) (from ! (stop !)) (init ! 19 refl (state-typed 𝓤 H A W (h .state) (state-is h was))) $
-        assigns ! (of-opd ! (load ! (from ! (hop ! (look ! 33 refl) (fld ! setup-at (fld ! figures-at (fld ! system-at (fld ! sz-at (stop !))))))) (look-in ! 3 (sz-in ! b o (h .setup .figures) _ _ _)))) (from ! (stop !)) (init ! 17 refl (sint-lawful 𝓤 H A W w64 .typed sz _ (sz-is h was) .0)) $
+        assigns ! (of-opd ! (load ! (from ! (hop ! (look ! 33 refl) (fld ! setup-at (fld ! figures-at (fld ! system-at (fld ! sz-at (stop !))))))) (look-in ! 3 (sz-in ! b o (h .setup .figures) _ _ _)))) (from ! (stop !)) (init ! 17 refl (sint-lawful 𝓤 H A W w64 .typed (h .setup .figures .system .sz) _ (sz-is h was) .0)) $
         assigns ! (addr ! (from ! (fld ! refl (hop ! (look-in ! 29 (sub ! 0 refl (whole !))) (stop !))))) (from ! (stop !)) (init ! 15 refl (tt, tt)) $
         assigns ! (agg ! (and-then ! (load ! (from ! (stop !)) (look ! 15 refl)) (and-then ! (load ! (from ! (fld ! refl (stop !))) (look-in ! 29 (sub ! 1 refl (whole !)))) (no-more !)))) (from ! (stop !)) (init ! 13 refl (tt, (tt, (record { fits = room-r .0 }, tt)))) $
         move ! (0 ∷ 2 ∷ []) $ join ! $ move ! (0 ∷ 1 ∷ 6 ∷ []) $ group ! 3 $
         -- [what `answer` asks; the record's cell; the open borrow; obs; auth; true; _13; …]
-        calls-out ! fm answer.ended (answer.clauses 𝓤 H A at-mem run) (known-of .answers) (to-answer a va a-is) tt (answer-asks a va a-is was) (λ r zs. Replied a va a-is r (zs .1 .1 .1 .1 .0)) (λ r zs. id⊢ 𝓤 _)
+        calls-out ! fm answer.ended (answer.clauses 𝓤 H A at-mem run) (known-of .answers) (to-answer 𝓤 H A κ₁ κ₂ q₁ q₂ xf xr h a va) tt (answer-asks 𝓤 H A W at-mem run κ₁ κ₂ q₁ q₂ xf xr h a va reached was a-is) (λ r zs. Answering (answered (h .state) (h .setup .figures .system .sz) a) (xf .now) (xr .now) (zs .1 .1 .1 .1 .0) r) (λ r zs. id⊢ 𝓤 _)
         (and-then ! (load ! (from ! (stop !)) (look ! 16 refl)) (and-then ! (load ! (from ! (stop !)) (look ! 14 refl)) (and-then ! (load ! (from ! (stop !)) (look ! 24 refl)) (and-then ! (load ! (from ! (stop !)) (look ! 28 refl)) (and-then ! (load ! (from ! (stop !)) (look ! 10 refl)) (no-more !)))))) (λ w r zs e r-is.
         -- of the last values only the reply's says anything: its list, and that it is as long as the one lent
         fsplit ! $ drop ! $ fsplit ! $ drop ! $ fsplit ! $ drop ! $ fsplit ! $ drop ! $ fsplit ! $ fsplit ! $ move ! (1 ∷ []) $ feqL ! (λ l. move ! (2 ∷ []) $
         -- [the other tokens; the last list; true; the record's cell; the open borrow; obs; auth; true; _13; …]
         land ! (from ! (stop !)) (init ! 24 refl (LL.lawful B.the-type B′.the-laws 𝓤 H A W .typed r _ r-is .0)) $
         assigns ! (addr ! (from ! (hop ! (look ! 32 refl) (stop !)))) (from ! (stop !)) (init ! 8 refl (tt, tt)) $
-        move ! (3 ∷ 4 ∷ 5 ∷ 6 ∷ []) $ use1 W (‵ (fat fullShare (rawTy D′.mir) b o (mach h))) (together 𝓤 H A W b o h (rezero-is h sz (h .state))) $
+        move ! (3 ∷ 4 ∷ 5 ∷ 6 ∷ []) $ use1 W (‵ (fat fullShare (rawTy D′.mir) b o (mach h))) (together 𝓤 H A W b o h (rezero-is h (h .setup .figures .system .sz) (h .state))) $
         owned ! D.the-row (Is D.the-row) (LL.makes D.the-type D′.the-plain 𝓤 H A) h _ was $ move ! (1 ∷ 0 ∷ []) $ closes ! tt D.the-row h (mach h ∷ []) b o $ group ! 3 $
         -- [what `obey` asks; the other tokens; the last list; true; true; _13; …]
-        calls-out ! fm obey.ended (obey.clauses 𝓤 H A at-mem run) (known-of .obeys) (to-obey a va a-is) tt (obey-asks a va a-is) (λ u ds. ds .0 ≡ obeyed h a) (λ u ds. id⊢ 𝓤 _)
+        calls-out ! fm obey.ended (obey.clauses 𝓤 H A at-mem run) (known-of .obeys) (to-obey 𝓤 H A κ q b o γ h a va) tt (obey-asks 𝓤 H A W at-mem run κ q b o γ h a va a-is) (λ u ds. ds .0 ≡ obeyed h a) (λ u ds. id⊢ 𝓤 _)
         (and-then ! (load ! (from ! (stop !)) (look ! 5 refl)) (and-then ! (load ! (from ! (stop !)) (look ! 23 refl)) (no-more !))) (λ vu u ds obeys u-is. fsplit ! $ move ! (1 ∷ []) $ drop ! $
         -- [the record's last value; its token; the other tokens; the last list; true; true; _13; …]
         land ! (from ! (stop !)) (init ! 8 refl (subst (λ (y : Val). T (hasTy tyUnit y) × WT y) (sym (ap only u-is)) (tt, tt))) $
         assigns ! (of-opd ! (load ! (from ! (stop !)) (look ! 22 refl))) (from ! (stop !)) (init ! 32 refl (LL.lawful B.the-type B′.the-laws 𝓤 H A W .typed r _ r-is .0)) $
         returns ! (look ! 32 refl) $ frees-all ! 6 (holding _ _ _ ∷ holding _ _ _ ∷ holding _ _ _ ∷ holding _ _ _ ∷ holding _ _ _ ∷ holding _ _ _ ∷ holding _ _ _ ∷ holding _ _ _ ∷ holding _ _ _ ∷ holding _ _ _ ∷ holding _ _ _ ∷ holding _ _ _ ∷ holding _ _ _ ∷ holding _ _ _ ∷ []) refl $
-        keep ! (0 ∷ 1 ∷ 2 ∷ 3 ∷ []) $ by ! (exits r w (ds .0) (zs .1 .1 .1 .1 .0) r-is (served a va a-is r (zs .1 .1 .1 .1 .0) (ds .0) asked e obeys) l)))))))))))))))))))))
+        keep ! (0 ∷ 1 ∷ 2 ∷ 3 ∷ []) $ by ! (exits r w (ds .0) (zs .1 .1 .1 .1 .0) r-is (served a r (zs .1 .1 .1 .1 .0) (ds .0) asked e obeys) l)))))))))))))))))))))
 
 module _ {M : Type 1} (𝓤 : URA M) (H : Heap 𝓤) (A : Atoms 𝓤) (W : Given 𝓤 H A) (mem : Memory → SProp 𝓤) (run : Routine → Fun 𝓤) where
   walks : (C : Calls 𝓤 H) (Λ : Loops 𝓤 H) → FmC 𝓤 H (W .laws) C → Known 𝓤 H A mem run C → Walks 𝓤 H A f.ended stayed (WpFn 𝓤 H C Λ code.function) (f.clauses 𝓤 H A mem run)

@@ -12,8 +12,8 @@ use Rattle.integers.proofs.Parts.{abs-parts, nonpos-parts, ints}
 use Rattle.integers.proofs.Difference.{⟨_⟩, nat, _⊕_, _⊝_, eq! }
 use Rattle.integers.proofs.Order.{lt-yes, lt-no, <-≤}
 use Rattle.integers.proofs.Machine.{fits!, fits-pos-part, fits-neg-part}
-use Rattle.worked_table.proofs.magnitude.Statement.{statement}
-use Rattle.worked_table.proofs.magnitude.Tie as tie
+use Rattle.arithmetic.proofs.sign.magnitude.Statement.{statement}
+use Rattle.arithmetic.proofs.sign.magnitude.Tie as tie
 
 module _ (c : tie.Then1) where
   n : ℤ
