@@ -1,6 +1,6 @@
 -- A float on the wire (01, "The bus"): "A value goes out as a 32-bit float, bytes 15:8, 7:0, 31:24, 23:16 (001)."
 use mathlib.Core.List.{List, [], _∷_}
-use Prim.Native.Nat.{ℕ, zero, suc, _+_, _*_, _/_, _%_}
+use Prim.Native.Nat.{ℕ, _+_, _*_, _/_, _%_}
 use lib.Ieee.{Float, binary32, toBits, ofBits}
 
 -- a 32-bit pattern's bytes in that order, and the pattern of four bytes in that order
@@ -16,12 +16,3 @@ sent x = wireBytes (toBits binary32 x)
 
 abbrev pub received : ℕ → ℕ → ℕ → ℕ → Float
 received a b c d = ofBits binary32 (pattern a b c d)
-
--- bytes as one number, low byte first, and a number's n lowest bytes in that order
-abbrev pub number : List ℕ → ℕ
-number [] = 0
-number (b ∷ rest) = b + number rest * 256
-
-abbrev pub bytesOf : ℕ → ℕ → List ℕ
-bytesOf zero w = []
-bytesOf (suc n) w = w % 256 ∷ bytesOf n (w / 256)

@@ -1,7 +1,8 @@
 // A float as four bytes on the wire (01, "The bus").
 ghost use mathlib.Core.Path.{_≡_};
 ghost use lib.Ieee.{binary32, toBits};
-ghost use Rattle.binary32.specs.Wire.{sent, received, number};
+ghost use Rattle.integers.specs.Bytes.{wordOf};
+ghost use Rattle.binary32.specs.Wire.{sent, received};
 
 // The bit pattern of any float. (A NaN, which no device sends, has none of its own: the quiet one.)
 fn bits_of_float(x: f32) -> u32
@@ -16,7 +17,7 @@ fn bits_of_float(x: f32) -> u32
 // The four bytes of x as they are sent, as one number, low byte first: the two of each word change
 // places.
 pub fn bytes_of_float(x: f32) -> u32
-    ensures { λ r. ⌜ r ≡ number (sent x) ⌝ }
+    ensures { λ r. ⌜ r ≡ wordOf (sent x) ⌝ }
 {
     let bits = bits_of_float(x);
     (bits & 0xff_00ff) * 256 + (bits >> 8 & 0xff_00ff)

@@ -7,7 +7,7 @@ use native.Mathlib.Omega.{arith}
 use lib.Bits.{bitXor, xor-zero-r, xor-lt}
 use lib.ListN.{length, getD, take, drop, length-drop}
 use lib.Seq.{length-take-le, take-add, getD-drop}
-use Rattle.binary32.specs.Wire.{number}
+use Rattle.integers.specs.Bytes.{wordOf}
 use Rattle.modbus.specs.Checksum.{shifts, taken, checksumFrom, checksumOf}
 use Rattle.modbus.proofs.Shifts.{by-one, shifts-fit}
 
@@ -15,12 +15,17 @@ abbrev pub Bytes : List ℕ → Type 0
 Bytes [] = Unit {0}
 Bytes (b ∷ rest) = (b < 256) × Bytes rest
 
-pub at-once : (l : List ℕ) → Bytes l → (c : ℕ) → checksumFrom c l ≡ shifts (8 * length l) (bitXor c (number l))
+pub bytes-each : (l : List ℕ) → Bytes l → (i : ℕ) → getD l i 0 < 256
+bytes-each [] bs i = omega arith
+bytes-each (b ∷ rest) bs zero = bs .0
+bytes-each (b ∷ rest) bs (suc i) = bytes-each rest (bs .1) i
+
+pub at-once : (l : List ℕ) → Bytes l → (c : ℕ) → checksumFrom c l ≡ shifts (8 * length l) (bitXor c (wordOf l))
 unfolding shifts
 at-once [] bs c = sym (xor-zero-r c)
 at-once (b ∷ rest) bs c =
     let more : 8 + 8 * length rest ≡ 8 * suc (length rest) = omega arith in
-    at-once rest (bs .1) (taken c b) ∙ by-one c b (number rest) (8 * length rest) (bs .0) ∙ ap (λ (k : ℕ). shifts k (bitXor c (b + number rest * 256))) more
+    at-once rest (bs .1) (taken c b) ∙ by-one c b (wordOf rest) (8 * length rest) (bs .0) ∙ ap (λ (k : ℕ). shifts k (bitXor c (b + wordOf rest * 256))) more
 
 pub checksum-fits : (l : List ℕ) → Bytes l → (c : ℕ) → c < 65536 → checksumFrom c l < 65536
 unfolding taken
@@ -38,7 +43,7 @@ bytes-taken zero l h = tt
 bytes-taken (suc k) [] h = tt
 bytes-taken (suc k) (b ∷ rest) h = (h 0, bytes-taken k rest (λ j. h (suc j)))
 
-number-more : (k : ℕ) (l : List ℕ) → number (take (suc k) l) ≡ number (take k l) + getD l k 0 * 256 ^ k
+number-more : (k : ℕ) (l : List ℕ) → wordOf (take (suc k) l) ≡ wordOf (take k l) + getD l k 0 * 256 ^ k
 number-more zero [] = refl
 number-more zero (b ∷ rest) = omega arith
 number-more (suc k) [] = omega (arith, zero-mul (256 ^ suc k))
@@ -50,14 +55,14 @@ module _ (s : List ℕ) (i : ℕ) where
   numberAt zero = 0
   numberAt (suc k) = numberAt k + getD s (i + k) 0 * 256 ^ k
 
-  pub number-at : (k : ℕ) → number (take k (drop i s)) ≡ numberAt k
+  pub number-at : (k : ℕ) → wordOf (take k (drop i s)) ≡ numberAt k
   number-at zero = refl
   number-at (suc k) = number-more k (drop i s) ∙ ap₂ (λ (p q : ℕ). p + q * 256 ^ k) (number-at k) (getD-drop i s k 0)
 
-  pub run-at-once : ((j : ℕ) → getD s j 0 < 256) → (k : ℕ) → i + k ≤ length s → (c : ℕ) → checksumFrom c (take k (drop i s)) ≡ shifts (8 * k) (bitXor c (number (take k (drop i s))))
+  pub run-at-once : ((j : ℕ) → getD s j 0 < 256) → (k : ℕ) → i + k ≤ length s → (c : ℕ) → checksumFrom c (take k (drop i s)) ≡ shifts (8 * k) (bitXor c (wordOf (take k (drop i s))))
   run-at-once small k h c =
       at-once (take k (drop i s)) (bytes-taken k (drop i s) (λ j. rw getD-drop (small (i + j)))) c
-      ∙ ap (λ (n : ℕ). shifts (8 * n) (bitXor c (number (take k (drop i s))))) (length-take-le k (drop i s) (simp length-drop (omega arith)))
+      ∙ ap (λ (n : ℕ). shifts (8 * n) (bitXor c (wordOf (take k (drop i s))))) (length-take-le k (drop i s) (simp length-drop (omega arith)))
 
   -- k bytes more, taken in on top of the first i
   pub further : (k : ℕ) {c r : ℕ} → c ≡ checksumOf (take i s) → r ≡ checksumFrom c (take k (drop i s)) → r ≡ checksumOf (take (i + k) s)

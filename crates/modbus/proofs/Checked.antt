@@ -11,7 +11,7 @@ use lib.Bits.{bitXor, xor-self, xor-lt}
 use lib.Dec.{eqb}
 use lib.ListN.{length, take, drop}
 use lib.Seq.{take-length, take-at, getD-append-add}
-use Rattle.binary32.specs.Wire.{number}
+use Rattle.integers.specs.Bytes.{wordOf}
 use Rattle.modbus.specs.Checksum.{shifts, checksumOf, framed}
 use Rattle.modbus.specs.Frame.{byteAt, checked}
 use Rattle.modbus.proofs.Xor.{xor-zero}
@@ -49,7 +49,7 @@ module _ (s : List ℕ) (small : (j : ℕ) → byteAt s j < 256) (h : 2 ≤ leng
   abbrev last : ℕ
   last = byteAt s (length s - 1) * 256 + byteAt s m
 
-  last-number : number (take 2 (drop m s)) ≡ last
+  last-number : wordOf (take 2 (drop m s)) ≡ last
   last-number = let place : m + 1 ≡ length s - 1 = omega arith in omega (arith, number-at s m 2, ap (byteAt s) (add-zero m), ap (byteAt s) place)
 
   whole : checksumOf s ≡ shifts 16 (bitXor (checksumOf (take m s)) last)

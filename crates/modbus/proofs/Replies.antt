@@ -11,10 +11,11 @@ use lib.Dec.{eqb, ltb, lit≤}
 use lib.Ieee.{Float}
 use lib.ListN.{length, take, drop, length-append, length-take}
 use Rattle.modbus.specs.Checksum.{checksumOf, framed}
-use Rattle.binary32.specs.Wire.{wireBytes, sent, number, bytesOf}
+use Rattle.integers.specs.Bytes.{wordOf, wordBytes}
+use Rattle.binary32.specs.Wire.{wireBytes, sent}
 use Rattle.modbus.specs.Frame.{stationOf, functionOf}
-use Rattle.modbus.proofs.Bytes.{Bytes}
-use Rattle.modbus.proofs.Words.{bytes-number}
+use Rattle.modbus.proofs.Bytes.{Bytes, bytes-each}
+use Rattle.integers.proofs.Words.{bytes-word}
 use Rattle.modbus.specs.Reply.{silent, answer, valueReply, writeReply, exceptionCode, exceptionReply, Replied}
 
 -- ---- what a test of silence tells
@@ -44,12 +45,12 @@ length-framed l = length-append l (checksumOf l % 256 ∷ checksumOf l / 256 ∷
 
 module _ (s b l : List ℕ) where
   -- of the n bytes of a word that is put
-  pub replied : (after : List ℕ) (n word r : ℕ) → silent s (length b) ≡ false → Bytes l → length l ≡ n → word ≡ number l
-      → (r ≡ n + 2) × (after ≡ framed (bytesOf n word) ++ drop (n + 2) b) → Replied (answer s (length b) l) b after r
+  pub replied : (after : List ℕ) (n word r : ℕ) → silent s (length b) ≡ false → Bytes l → length l ≡ n → word ≡ wordOf l
+      → (r ≡ n + 2) × (after ≡ framed (wordBytes n word) ++ drop (n + 2) b) → Replied (answer s (length b) l) b after r
   unfolding answer
   replied after n word r h bs e w put =
       let size : r ≡ length (framed l) = put .0 ∙ sym (length-framed l ∙ ap (λ (k : ℕ). k + 2) e) in
-      let bytes : bytesOf n word ≡ l = ap₂ bytesOf (sym e) w ∙ bytes-number l bs in
+      let bytes : wordBytes n word ≡ l = ap₂ wordBytes (sym e) w ∙ bytes-word l (bytes-each l bs) in
       subst (λ (t : Bool). Replied (cond t [] (framed l)) b after r) (sym h)
       (record { count = size; buffer = put .1 ∙ ap₂ (λ (m : List ℕ) (k : ℕ). framed m ++ drop k b) bytes (sym (put .0) ∙ size) })
 

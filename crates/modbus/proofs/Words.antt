@@ -1,37 +1,19 @@
--- A message as one number, low byte first: its bytes come back, and its checksum is of the number. Assumes nothing.
-use mathlib.Core.Path.{_≡_, refl, sym, ap, ap₂, _∙_}
-use mathlib.Core.List.{List, [], _∷_}
+-- The checksum of a message that is put as one number, low byte first. Assumes nothing.
+use mathlib.Core.Path.{_≡_, sym, ap, ap₂, _∙_}
 use Prim.Native.Nat.{ℕ, zero, suc, _+_, _-_, _*_, _/_, _%_, _^_, _≤_}
 use native.Mathlib.Nat.{add-zero, mod-eq-of-lt, mul-mod-left, lt-of-lt-of-le}
 use native.Mathlib.Omega.{arith}
 use lib.Bits.{bitXor, xor-comm, xor-mod}
-use lib.ListN.{length}
 use lib.Pow.{pow-mono, shl-shr, mod-pow-add}
-use Rattle.binary32.specs.Wire.{number, bytesOf}
+use Rattle.integers.specs.Bytes.{wordBytes}
+use Rattle.integers.proofs.Words.{length-bytes, word-bytes}
 use Rattle.modbus.specs.Checksum.{shifts, checksumOf}
 use Rattle.modbus.proofs.Shifts.{shifts-up}
 use Rattle.modbus.proofs.Bytes.{Bytes, at-once}
 
-pub length-bytes : (n w : ℕ) → length (bytesOf n w) ≡ n
-length-bytes zero w = refl
-length-bytes (suc n) w = ap suc (length-bytes n (w / 256))
-
-are-bytes : (n w : ℕ) → Bytes (bytesOf n w)
+are-bytes : (n w : ℕ) → Bytes (wordBytes n w)
 are-bytes zero w = tt
 are-bytes (suc n) w = (omega arith, are-bytes n (w / 256))
-
-number-bytes : (n w : ℕ) → number (bytesOf n w) ≡ w % 2 ^ (8 * n)
-number-bytes zero w = omega arith
-number-bytes (suc n) w =
-    let more : 8 * suc n ≡ 8 * n + 8 = omega arith in
-    omega (arith, number-bytes n (w / 256), mod-pow-add w (8 * n) 8, ap (λ (k : ℕ). w % 2 ^ k) more)
-
-pub bytes-number : (l : List ℕ) → Bytes l → bytesOf (length l) (number l) ≡ l
-bytes-number [] bs = refl
-bytes-number (b ∷ rest) bs =
-    let low : (b + number rest * 256) % 256 ≡ b = omega (arith, bs .0) in
-    let high : (b + number rest * 256) / 256 ≡ number rest = omega (arith, bs .0) in
-    ap₂ (λ (p q : ℕ). p ∷ bytesOf (length rest) q) low high ∙ ap (λ (r : List ℕ). b ∷ r) (bytes-number rest (bs .1))
 
 -- what a shift to the left drops
 shl-mod : (x j k : ℕ) → x * 2 ^ k % 2 ^ (j + k) ≡ x % 2 ^ j * 2 ^ k
@@ -42,7 +24,7 @@ from-start : (w j : ℕ) → 16 ≤ j → bitXor w 0xFFFF % 2 ^ j ≡ bitXor 0xF
 from-start w j h =
     xor-mod w 0xFFFF j ∙ ap (bitXor (w % 2 ^ j)) (mod-eq-of-lt (lt-of-lt-of-le (omega arith) (pow-mono {i = 16} h))) ∙ xor-comm (w % 2 ^ j) 0xFFFF
 
-pub checksum-word : (n w : ℕ) → 2 ≤ n → n ≤ 8 → shifts 64 (bitXor w 0xFFFF * 2 ^ (64 - 8 * n) % 2 ^ 64) ≡ checksumOf (bytesOf n w)
+pub checksum-word : (n w : ℕ) → 2 ≤ n → n ≤ 8 → shifts 64 (bitXor w 0xFFFF * 2 ^ (64 - 8 * n) % 2 ^ 64) ≡ checksumOf (wordBytes n w)
 checksum-word n w h g =
     let k = 64 - 8 * n in
     let x = bitXor w 0xFFFF in
@@ -53,4 +35,4 @@ checksum-word n w h g =
     ∙ ap (λ (m : ℕ). shifts m (x % 2 ^ (8 * n) * 2 ^ k)) (sym down)
     ∙ shifts-up k (8 * n) (x % 2 ^ (8 * n))
     ∙ ap (shifts (8 * n)) (from-start w (8 * n) (omega arith))
-    ∙ sym (at-once (bytesOf n w) (are-bytes n w) 0xFFFF ∙ ap₂ (λ (m p : ℕ). shifts (8 * m) (bitXor 0xFFFF p)) (length-bytes n w) (number-bytes n w))
+    ∙ sym (at-once (wordBytes n w) (are-bytes n w) 0xFFFF ∙ ap₂ (λ (m p : ℕ). shifts (8 * m) (bitXor 0xFFFF p)) (length-bytes n w) (word-bytes n w))

@@ -2,7 +2,7 @@
 ghost use mathlib.Core.Path.{_≡_};
 ghost use Prim.Native.Nat.{_+_, _≤_, _<_};
 ghost use lib.ListN.{length, take, drop};
-ghost use Rattle.binary32.specs.Wire.{number, bytesOf};
+ghost use Rattle.integers.specs.Bytes.{wordOf, wordBytes};
 ghost use Rattle.modbus.specs.Checksum.{shifts, checksumFrom, checksumOf};
 
 // Sixty-four shifts at once, with no table: modulo X^15 + X + 1, X^30 is X^2 + 1 and X^15 is X + 1, so
@@ -50,7 +50,7 @@ fn take_two(sum: u16, bytes: &[u8], i: usize) -> u16
 // The four bytes from the place i on as one number, low byte first.
 pub(crate) fn number_of_four(bytes: &[u8], i: usize) -> u32
     requires { ⌜ i + 4 ≤ length (now bytes) ⌝ }
-    ensures { λ r. ⌜ r ≡ number (take 4 (drop i (now (bytes .entry)))) ⌝ }
+    ensures { λ r. ⌜ r ≡ wordOf (take 4 (drop i (now (bytes .entry)))) ⌝ }
 {
     let low = (bytes[i] as u32) + (bytes[i + 1] as u32) * 0x100;
     low + (bytes[i + 2] as u32) * 0x1_0000 + (bytes[i + 3] as u32) * 0x100_0000
@@ -127,7 +127,7 @@ fn take_rest(start: u16, bytes: &[u8], from: usize, count: usize) -> u16
 // start is shifted out.
 pub(crate) fn checksum_of_word(word: u64, count: u64) -> u16
     requires { ⌜ (2 ≤ count) × (count ≤ 8) ⌝ }
-    ensures { λ r. ⌜ r ≡ checksumOf (bytesOf count word) ⌝ }
+    ensures { λ r. ⌜ r ≡ checksumOf (wordBytes count word) ⌝ }
 {
     sixty_four_shifts((word ^ 0xffff) << (64 - 8 * count))
 }

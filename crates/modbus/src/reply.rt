@@ -4,7 +4,7 @@ ghost use mathlib.Core.Path.{_≡_};
 ghost use mathlib.Core.List.{_++_};
 ghost use Prim.Native.Nat.{_+_, _≤_};
 ghost use lib.ListN.{length, drop};
-ghost use Rattle.binary32.specs.Wire.{bytesOf};
+ghost use Rattle.integers.specs.Bytes.{wordBytes};
 ghost use Rattle.modbus.specs.Checksum.{framed};
 ghost use Rattle.modbus.specs.Reply.{silent, valueReply, writeReply, exceptionCode, exceptionReply, Replied};
 
@@ -25,7 +25,7 @@ fn is_silent(frame: &[u8], room: usize) -> bool
 // how many bytes that is.
 fn put(reply: &mut [u8], word: u64, count: usize) -> usize
     requires { ⌜ (2 ≤ count) × (count ≤ 7) × (count + 2 ≤ length (now reply)) ⌝ }
-    ensures { λ r. ⌜ (r ≡ count + 2) × (now (reply .exit) ≡ framed (bytesOf count word) ++ drop (count + 2) (now (reply .entry))) ⌝ }
+    ensures { λ r. ⌜ (r ≡ count + 2) × (now (reply .exit) ≡ framed (wordBytes count word) ++ drop (count + 2) (now (reply .entry))) ⌝ }
 {
     let sum = crate::checksum::checksum_of_word(word, count as u64);
     let mut rest = word;

@@ -2,7 +2,8 @@
 use mathlib.Core.Path.{_≡_, refl, sym, _∙_, ap, subst}
 use mathlib.Core.Bool.{Bool, true, false, cond}
 use mathlib.Core.List.{List, [], _∷_, _++_}
-use Prim.Native.Nat.{ℕ, zero, suc, _+_, _*_, _-_, _/_, _%_, _^_, _≤_, _<_}
+use Prim.Native.Nat.{ℕ, zero, suc, _+_, _*_, _-_, _^_, _≤_, _<_}
+use native.Mathlib.Nat.{mod-eq-of-lt}
 use native.Mathlib.Omega.{arith}
 use native.Mathlib.Numerals.{add-one}
 use lib.Dec.{ltb}
@@ -12,23 +13,12 @@ use lib.Seq.{drop-drop, drop-cons, length-take-le, getD-drop}
 use mir.Syntax.{w64}
 use mir.Val.{SFits}
 use borrow.Author.Tests.{lt-ltb, le-ltb, le-leb}
+use Rattle.integers.proofs.Words.{word-bytes, bytes-word}
 use Rattle.sheet.specs.Bytes.{wordOf, signedOf, countAt, figureAt, wordBytes, unsignedOf, figureBytes, Bytes}
 
 abbrev power : ℕ → ℕ
 power zero = 1
 power (suc k) = 256 * power k
-
-word-bytes : (k u : ℕ) → u < power k → wordOf (wordBytes k u) ≡ u
-word-bytes zero u h = omega arith
-word-bytes (suc k) u h = rw (word-bytes k (u / 256) (omega arith)) (omega arith)
-
-bytes-word : (l : List ℕ) → Bytes l → wordBytes (length l) (wordOf l) ≡ l
-bytes-word [] h = refl
-bytes-word (b ∷ l) h =
-    let a = h 0 in
-    let e : (b + wordOf l * 256) % 256 ≡ b = omega arith in
-    let d : (b + wordOf l * 256) / 256 ≡ wordOf l = omega arith in
-    rw (e, d) (ap (λ (t : List ℕ). b ∷ t) (bytes-word l (λ i. h (suc i))))
 
 word-lt : (l : List ℕ) → Bytes l → wordOf l < power (length l)
 word-lt [] h = omega arith
@@ -68,7 +58,7 @@ eight-back l e h =
 
 figure-back : (v : ℤ) (rest : List ℕ) → SFits w64 v → signedOf (wordOf (take 8 (figureBytes v ++ rest))) ≡ v
 unfolding figureBytes
-figure-back v rest h = ap signedOf (word-bytes 8 (unsignedOf v) (unsigned-lt v h)) ∙ unsigned-back v h
+figure-back v rest h = ap signedOf (word-bytes 8 (unsignedOf v) ∙ mod-eq-of-lt (unsigned-lt v h)) ∙ unsigned-back v h
 
 pub figure-length : (v : ℤ) → length (figureBytes v) ≡ 8
 unfolding figureBytes

@@ -1,21 +1,17 @@
 -- Counts and figures as bytes (01, "The calibration sheet"): "a figure is 8 bytes, two's complement, low byte first".
 use mathlib.Core.Bool.{cond}
-use mathlib.Core.List.{List, [], _∷_}
-use Prim.Native.Nat.{ℕ, zero, suc, _+_, _*_, _-_, _/_, _%_, _^_, _<_}
+use mathlib.Core.List.{List}
+use Prim.Native.Nat.{ℕ, _+_, _-_, _^_, _<_}
 use lib.Dec.{ltb, leb}
 use lib.IntN.{ℤ, pos, negsuc}
 use lib.ListN.{length, getD, take, drop}
+pub use Rattle.integers.specs.Bytes.{wordOf, wordBytes}
 
 -- each element is a byte, as in every slice of u8
 abbrev pub Bytes : List ℕ → Type 0
 Bytes s = (i : ℕ) → getD s i 0 < 256
 
 -- ---- what bytes say
-
--- the number whose digits to base 256 are the bytes, low byte first
-abbrev pub wordOf : List ℕ → ℕ
-wordOf [] = 0
-wordOf (b ∷ rest) = b + wordOf rest * 256
 
 -- the number of a 64-bit word in two's complement
 unfoldable pub signedOf : ℕ → ℤ
@@ -30,11 +26,6 @@ unfoldable pub figureAt : List ℕ → ℕ → ℤ
 figureAt s at = cond (leb (at + 8) (length s)) (signedOf (wordOf (take 8 (drop at s)))) (pos 0)
 
 -- ---- the bytes of a figure
-
--- the n lowest digits to base 256, low byte first
-abbrev pub wordBytes : ℕ → ℕ → List ℕ
-wordBytes zero u = []
-wordBytes (suc n) u = (u % 256) ∷ wordBytes n (u / 256)
 
 -- two's complement in 64 bits
 abbrev pub unsignedOf : ℤ → ℕ

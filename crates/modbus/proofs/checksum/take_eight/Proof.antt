@@ -7,7 +7,7 @@ use native.Mathlib.Omega.{arith}
 use denote.Ref.{now}
 use lib.Bits.{bitXor}
 use lib.ListN.{take, drop}
-use Rattle.binary32.specs.Wire.{number}
+use Rattle.integers.specs.Bytes.{wordOf}
 use Rattle.modbus.specs.Checksum.{shifts}
 use Rattle.modbus.specs.Frame.{byteAt}
 use Rattle.modbus.proofs.Bytes.{number-at, run-at-once}
@@ -39,7 +39,7 @@ add-sixty-four-shifts c = search needs
 sixty-four-shifts-requires : tie.Need-sixty-four-shifts-requires
 sixty-four-shifts-requires c κs = search needs
 
-two-fours : (s : List ℕ) (i : ℕ) → number (take 4 (drop i s)) + number (take 4 (drop (i + 4) s)) * 2 ^ 32 ≡ number (take 8 (drop i s))
+two-fours : (s : List ℕ) (i : ℕ) → wordOf (take 4 (drop i s)) + wordOf (take 4 (drop (i + 4) s)) * 2 ^ 32 ≡ wordOf (take 8 (drop i s))
 two-fours s i = omega (arith, number-at s i 4, number-at s (i + 4) 4, number-at s i 8, place 0, place 1, place 2, place 3)
   where
     place : (j : ℕ) → byteAt s (i + 4 + j) ≡ byteAt s (i + (4 + j))

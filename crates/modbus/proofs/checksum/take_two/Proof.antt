@@ -6,7 +6,7 @@ use native.Mathlib.Omega.{arith}
 use denote.Ref.{now}
 use lib.Bits.{bitXor}
 use lib.ListN.{take, drop}
-use Rattle.binary32.specs.Wire.{number}
+use Rattle.integers.specs.Bytes.{wordOf}
 use Rattle.modbus.specs.Checksum.{shifts}
 use Rattle.modbus.specs.Frame.{byteAt}
 use Rattle.modbus.proofs.Bytes.{number-at, run-at-once}
@@ -42,7 +42,7 @@ returns : tie.Need-returns
 returns c =
     let a = c .before .before .before .before .args in
     let s = now (a .bytes) in
-    let two : byteAt s (a .i + 1) * 256 + byteAt s (a .i) ≡ number (take 2 (drop (a .i) s)) = omega (arith, number-at s (a .i) 2, ap (byteAt s) (add-zero (a .i))) in
+    let two : byteAt s (a .i + 1) * 256 + byteAt s (a .i) ≡ wordOf (take 2 (drop (a .i) s)) = omega (arith, number-at s (a .i) 2, ap (byteAt s) (add-zero (a .i))) in
     c .sixteen-shifts .ensures ∙ ap (λ (n : ℕ). shifts 16 (bitXor (a .sum) n)) two
     ∙ sym (run-at-once s (a .i) (λ j. omega (arith, c .before .shared-slice-known3 .given j)) 2 (omega arith) (a .sum))
 

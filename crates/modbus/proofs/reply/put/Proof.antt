@@ -8,9 +8,9 @@ use borrow.Author.Needs.{needs}
 use denote.Ref.{now}
 use lib.ListN.{length, set, drop, length-set}
 use lib.Seq.{sets, sets-eq}
-use Rattle.binary32.specs.Wire.{bytesOf}
+use Rattle.integers.specs.Bytes.{wordBytes}
 use Rattle.modbus.specs.Checksum.{checksumOf, framed}
-use Rattle.modbus.proofs.Words.{length-bytes}
+use Rattle.integers.proofs.Words.{length-bytes}
 use Rattle.modbus.proofs.Replies.{length-framed}
 use Rattle.modbus.proofs.reply.put.Statement.{statement}
 use Rattle.modbus.proofs.reply.put.Tie as tie
@@ -18,21 +18,21 @@ use Rattle.modbus.proofs.reply.put.Tie as tie
 abbrev closing : ℕ → List ℕ
 closing sum = sum % 256 ∷ sum / 256 ∷ []
 
-one-more : (s : List ℕ) (rest i left k : ℕ) (end : List ℕ) → k ≡ suc left → sets (set s i (rest % 256)) (i + 1) (bytesOf left (rest / 256) ++ end) ≡ sets s i (bytesOf k rest ++ end)
+one-more : (s : List ℕ) (rest i left k : ℕ) (end : List ℕ) → k ≡ suc left → sets (set s i (rest % 256)) (i + 1) (wordBytes left (rest / 256) ++ end) ≡ sets s i (wordBytes k rest ++ end)
 one-more s rest i left k end e =
-    ap (λ (j : ℕ). sets (set s i (rest % 256)) j (bytesOf left (rest / 256) ++ end)) (add-one i) ∙ ap (λ (j : ℕ). sets s i (bytesOf j rest ++ end)) (sym e)
+    ap (λ (j : ℕ). sets (set s i (rest % 256)) j (wordBytes left (rest / 256) ++ end)) (add-one i) ∙ ap (λ (j : ℕ). sets s i (wordBytes j rest ++ end)) (sym e)
 
-both-more : (s : List ℕ) (rest i count sum : ℕ) → i ≡ count → set (set s count (sum % 256)) (count + 1) (sum / 256) ≡ sets s i (bytesOf (count - i) rest ++ closing sum)
+both-more : (s : List ℕ) (rest i count sum : ℕ) → i ≡ count → set (set s count (sum % 256)) (count + 1) (sum / 256) ≡ sets s i (wordBytes (count - i) rest ++ closing sum)
 both-more s rest i count sum e =
     let none : 0 ≡ count - i = omega arith in
     ap (λ (j : ℕ). set (set s count (sum % 256)) j (sum / 256)) (add-one count)
-    ∙ ap₂ (λ (j k : ℕ). sets s j (bytesOf k rest ++ closing sum)) (sym e) none
+    ∙ ap₂ (λ (j k : ℕ). sets s j (wordBytes k rest ++ closing sum)) (sym e) none
 
-whole : (s : List ℕ) (word count sum : ℕ) → count + 2 ≤ length s → sum ≡ checksumOf (bytesOf count word)
-    → sets s 0 (bytesOf count word ++ closing sum) ≡ framed (bytesOf count word) ++ drop (count + 2) s
+whole : (s : List ℕ) (word count sum : ℕ) → count + 2 ≤ length s → sum ≡ checksumOf (wordBytes count word)
+    → sets s 0 (wordBytes count word ++ closing sum) ≡ framed (wordBytes count word) ++ drop (count + 2) s
 unfolding framed
 whole s word count sum h e =
-    let l = bytesOf count word in
+    let l = wordBytes count word in
     let size : 0 + length (framed l) ≡ count + 2 = omega (arith, length-framed l, length-bytes count word) in
     ap (λ (k : ℕ). sets s 0 (l ++ closing k)) e
     ∙ sets-eq (framed l) s 0 (omega arith)
@@ -40,7 +40,7 @@ whole s word count sum h e =
 
 abbrev Inv-loop : tie.InvT-loop
 Inv-loop reply₀ word count sum rest₀ i₀ reply rest i =
-    (i ≤ count) × (length reply ≡ length reply₀) × (sets reply i (bytesOf (count - i) rest ++ closing sum) ≡ sets reply₀ 0 (bytesOf count word ++ closing sum))
+    (i ≤ count) × (length reply ≡ length reply₀) × (sets reply i (wordBytes (count - i) rest ++ closing sum) ≡ sets reply₀ 0 (wordBytes count word ++ closing sum))
 
 abbrev μ-loop : tie.MeasureT-loop
 μ-loop reply₀ word count sum rest₀ i₀ reply rest i = count - i
@@ -52,7 +52,7 @@ loop-holds : tie.Need-loop-holds Inv-loop μ-loop
 loop-holds c =
     let a = c .before .before .args in
     let all : a .count - 0 ≡ a .count = omega arith in
-    (omega arith, refl, ap (λ (k : ℕ). sets (now (a .reply)) 0 (bytesOf k (a .word) ++ closing (c .checksum-of-word .result))) all)
+    (omega arith, refl, ap (λ (k : ℕ). sets (now (a .reply)) 0 (wordBytes k (a .word) ++ closing (c .checksum-of-word .result))) all)
 
 cast-reply : tie.Need-cast-reply Inv-loop μ-loop
 cast-reply c = search needs
