@@ -19,12 +19,12 @@ use Rattle.figures.specs.Acceptable.{Acceptable, temperatures, linearities}
 use Rattle.figures.specs.declared.Calibration.{Calibration}
 use Rattle.compensation.specs.Filter.{elecMost}
 use Rattle.compensation.specs.Reading.{one, scaled, yAt, rawCellAt, crawAt, cellAt, rawSystemAt, srawAt, sysAt, o, g, y, rawCell, craw, cell, rawSystem, sraw, sys}
-use Rattle.compensation.specs.Values.{valuesAt}
+use Rattle.compensation.specs.Values.{cellValuesAt, valuesFrom, valuesAt}
 use Rattle.compensation.specs.Exact.{oF, gF, yF, rawCellF, crawF, cellF, rawSystemF, srawF, sysF}
 use Rattle.compensation.specs.Faithful.{Within, AlwaysFaithful}
 use Rattle.compensation.proofs.Distance.{near-gain, near-adjust, near-correct}
 use Rattle.compensation.proofs.Held.{near-hold, same-side}
-use Rattle.compensation.proofs.Magnitudes.{one-above, magnitudes-of}
+use Rattle.compensation.proofs.Magnitudes.{one-above, cell-magnitudes-of}
 use Rattle.compensation.proofs.Flags.{raised-lt, raised-eq, stat-bits}
 
 -- at a whole number
@@ -52,7 +52,7 @@ module _ (c : Calibration) (elec temp : ℤ) (ok : Acceptable c) (held : elec wi
 
   raw-cell-near : Near 1315 32 (rawCell c elec temp) (rawCellF c elec temp)
   unfolding rawCellAt rawCellF scaled
-  raw-cell-near = near-adjust one one-above (omega (arith, magnitudes-of c elec temp ok held .y-within .abs)) (omega (arith, g-small .small)) y-near g-near
+  raw-cell-near = near-adjust one one-above (omega (arith, cell-magnitudes-of c elec temp ok held .y-within .abs)) (omega (arith, g-small .small)) y-near g-near
 
   craw-near : Near 1315 32 (craw c elec temp) (crawF c elec temp)
   unfolding crawAt crawF
@@ -82,7 +82,7 @@ both : {A B C : Type 0} → A ↔ B → B ↔ C → A ↔ C
 both f g = ((λ a. g .0 (f .0 a)), (λ c. f .1 (g .1 c)))
 
 pub faithful : AlwaysFaithful
-unfolding valuesAt
+unfolding valuesAt valuesFrom cellValuesAt rawSystemAt srawAt sysAt
 faithful c elec temp integrity ok held =
     let s = stat-bits c elec temp integrity in
     let raw-cell = in-steps {k = 42} 1315 (raw-cell-near c elec temp ok held) (omega arith) in

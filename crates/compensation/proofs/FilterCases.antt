@@ -1,7 +1,7 @@
 -- The cases of the filter's rule, as the code meets them. Assumes nothing.
 use mathlib.Core.Path.{_≡_, refl, ap}
 use mathlib.Core.Bool.{Bool, true, false, cond, _||_}
-use Prim.Native.Nat.{zero, suc}
+use Prim.Native.Nat.{zero, suc, _<_, _≤_}
 use native.Mathlib.Omega.{arith}
 use lib.Dec.{lit<}
 use borrow.Author.Tests.{ne-eqb}
@@ -10,10 +10,11 @@ use lib.Signed.{ltZ, _≤ℤ_, _<ℤ_}
 use mir.Syntax.{w64}
 use mir.Val.{SFits, ofZ}
 use Rattle.integers.proofs.Parts.{abs-parts, ints}
-use Rattle.integers.proofs.Difference.{⟨_⟩, nat, _⊝_, le!, lt!, le?, lt?}
-use Rattle.integers.proofs.Order.{yes-lt, no-lt}
+use Rattle.integers.proofs.Difference.{⟨_⟩, nat, _⊕_, _⊝_, le!, lt!, le?, eq!, abs-above, abs-below}
+use Rattle.integers.proofs.Order.{yes-lt, no-lt, lt-no}
 use Rattle.integers.proofs.Machine.{eq-bits}
 use Rattle.arithmetic.specs.Round.{roundDiv}
+use Rattle.arithmetic.proofs.Round.{round-none}
 use Rattle.figures.specs.declared.Filter.{Filter}
 use Rattle.compensation.specs.Filter.{isZero, filtered}
 
@@ -27,17 +28,14 @@ not-zero-bits (pos zero) f = absurd (f refl)
 not-zero-bits (pos (suc n)) f = ne-eqb (suc n) 0 (λ e. omega arith)
 not-zero-bits (negsuc n) f = refl
 
--- ---- the difference's size, by its two signs
+-- ---- FFLV is not negative: it is compared by sizes
 
-pub beyond-above : (level change : ℤ) → level <ℤ change → ltZ level (pos (natAbs change)) ≡ true
-beyond-above level change h = yes-lt (lt! ⟨ level ⟩ (nat (natAbs change)) (omega (ints, abs-parts change)))
+pub beyond : (level change : ℤ) → pos 0 ≤ℤ level → natAbs level < natAbs change → ltZ level (pos (natAbs change)) ≡ true
+beyond level change l h = yes-lt (lt! ⟨ level ⟩ (nat (natAbs change)) (omega (ints, abs-parts level)))
 
-pub beyond-below : (level change : ℤ) → level <ℤ (pos 0 -ℤ change) → ltZ level (pos (natAbs change)) ≡ true
-beyond-below level change h = yes-lt (lt! ⟨ level ⟩ (nat (natAbs change)) (omega (arith, lt? ⟨ level ⟩ (nat 0 ⊝ ⟨ change ⟩) h, abs-parts change)))
-
-pub not-beyond : (level change : ℤ) → change ≤ℤ level → (pos 0 -ℤ change) ≤ℤ level → ltZ level (pos (natAbs change)) ≡ false
-not-beyond level (pos n) h k = no-lt (le! (nat n) ⟨ level ⟩ (omega ints))
-not-beyond level (negsuc n) h k = no-lt (le! (nat (suc n)) ⟨ level ⟩ (omega (arith, le? (nat 0 ⊝ ⟨ negsuc n ⟩) ⟨ level ⟩ k)))
+pub not-beyond : (level change : ℤ) → pos 0 ≤ℤ level → natAbs change ≤ natAbs level → ltZ level (pos (natAbs change)) ≡ false
+not-beyond (pos n) change l h = no-lt (le! (nat (natAbs change)) (nat n) (omega arith))
+not-beyond (negsuc n) change l h = absurd (l .le)
 
 -- ---- which value is held
 
@@ -45,14 +43,6 @@ module _ (f : Filter) (first : Bool) (held input : ℤ) where
   pub at-first : first ≡ true → filtered f first held input ≡ input
   unfolding filtered
   at-first e = rw e
-
-  pub no-level : isZero (f .fflv) ≡ true → filtered f first held input ≡ input
-  unfolding filtered
-  no-level e = rw e (by _ first)
-    where
-      by : (x : ℤ) (b : Bool) → cond (b || true) input x ≡ input
-      by x true = refl
-      by x false = refl
 
   pub no-steps : isZero (f .ffst) ≡ true → filtered f first held input ≡ input
   unfolding filtered
@@ -71,6 +61,15 @@ module _ (f : Filter) (first : Bool) (held input : ℤ) where
       by true = refl
       by false = refl
 
-  pub one-step : first ≡ false → isZero (f .fflv) ≡ false → isZero (f .ffst) ≡ false → ltZ (f .fflv) (pos (natAbs (input -ℤ held))) ≡ false → filtered f first held input ≡ held +ℤ roundDiv (input -ℤ held) (f .ffst)
+  -- within an FFLV of 0 only the held value itself is left, and a step of none is none
+  pub one-step : first ≡ false → isZero (f .ffst) ≡ false → pos 0 <ℤ f .ffst → ltZ (f .fflv) (pos (natAbs (input -ℤ held))) ≡ false → filtered f first held input ≡ held +ℤ roundDiv (input -ℤ held) (f .ffst)
   unfolding filtered
-  one-step a b c d = rw (a, b, c, d)
+  one-step a b p d = rw (a, b, d) (by (f .fflv) (lt-no d))
+    where
+      by : (level : ℤ) → pos (natAbs (input -ℤ held)) ≤ℤ level → cond (isZero level || false) input (held +ℤ roundDiv (input -ℤ held) (f .ffst)) ≡ held +ℤ roundDiv (input -ℤ held) (f .ffst)
+      by (pos zero) h =
+          let none : natAbs (input -ℤ held) ≡ 0 = omega (arith, le? (nat (natAbs (input -ℤ held))) (nat 0) h) in
+          let same = ⟨ input ⟩ ⊝ ⟨ held ⟩ in
+          rw (round-none (input -ℤ held) (f .ffst) p (omega (ints, abs-parts (f .ffst)))) (eq! ⟨ input ⟩ (⟨ held ⟩ ⊕ nat 0) (omega (arith, abs-above same, abs-below same)))
+      by (pos (suc n)) h = rw (ne-eqb (suc n) 0 (λ e. omega arith))
+      by (negsuc n) h = refl

@@ -1,9 +1,12 @@
 -- How large each value and each product of a reading can be, for all acceptable figures and every ELEC that the filter can hold:
 -- all fit an i64 (docs/magnitudes.md has them as a table). Assumes nothing.
+use mathlib.Core.Path.{_≡_, refl}
 use Prim.Native.Nat.{ℕ, _*_, _^_}
 use native.Mathlib.Omega.{arith}
 use lib.IntN.{ℤ, pos, _+ℤ_, _-ℤ_, _*ℤ_}
 use lib.Signed.{_<ℤ_, ltZ-yes}
+use mir.Syntax.{w64}
+use mir.Val.{toZ, ofZ}
 use Rattle.integers.specs.Within.{_within_}
 use Rattle.integers.proofs.Magnitude.{within-add, within-neg, within-mul, within-more}
 use Rattle.arithmetic.specs.Table.{interpolated}
@@ -15,10 +18,15 @@ use Rattle.figures.specs.declared.Cell.{Cell}
 use Rattle.figures.specs.declared.Linearity.{Linearity}
 use Rattle.figures.specs.declared.System.{System}
 use Rattle.compensation.specs.Filter.{elecMost}
-use Rattle.compensation.specs.Reading.{one, scaled, inputAt, yAt, rawCellAt, crawAt, cellAt, rawSystemAt, srawAt, sysAt}
-use Rattle.compensation.specs.Values.{StepsInput}
+use Rattle.compensation.specs.Hold.{hold}
+use Rattle.compensation.specs.Reading.{one, scaled, inputAt, yAt, rawCellAt, crawAt, cellAt, rawSystemFrom, cell}
+use Rattle.compensation.specs.Values.{cellValuesAt, CellInput, SystemInput, CompensateInput}
 use Rattle.compensation.specs.declared.steps.Input.{Input}
 use Rattle.compensation.proofs.Held.{hold-within}
+
+-- z is v, through an i64's bits and back
+abbrev pub Holds : ℤ → ℤ → Type 0
+Holds z v = toZ w64 (ofZ w64 z) ≡ v
 
 pub one-above : pos 0 <ℤ one
 one-above = ltZ-yes tt
@@ -28,7 +36,7 @@ scaled-within : {n : ℕ} (x gain : ℤ) → (x *ℤ gain) within (n * 2 ^ 28) �
 unfolding scaled
 scaled-within x gain h = round-within (x *ℤ gain) one one-above h
 
-module _ (c : Cell) (l : Linearity) (s : System) (i : Input) (ok : StepsInput c l s i) where
+module _ (c : Cell) (l : Linearity) (i : Input) (ok : CellInput c l i) where
   y-product-in : ((i .elec -ℤ c .cofs -ℤ i .o) *ℤ c .cgai) within 698057942242426880
   y-product-in =
       within-more (within-mul (within-add (within-add (ok .elec-in) (within-neg (ok .cell-ok .cofs-in))) (within-neg (ok .o-in))) (ok .cell-ok .cgai-in)) (omega arith)
@@ -57,53 +65,64 @@ module _ (c : Cell) (l : Linearity) (s : System) (i : Input) (ok : StepsInput c 
   unfolding cellAt
   cell-in = within-add craw-in correction-in
 
-  raw-system-product-in : ((cellAt c l i -ℤ s .sofs) *ℤ s .sgai) within 9147936743096320000
-  raw-system-product-in = within-more (within-mul (within-add cell-in (within-neg (ok .system-ok .sofs-in))) (ok .system-ok .sgai-in)) (omega arith)
+module _ (s : System) (cell : ℤ) (ok : SystemInput s cell) where
+  raw-system-product-in : ((cell -ℤ s .sofs) *ℤ s .sgai) within 9147936743096320000
+  raw-system-product-in = within-more (within-mul (within-add (ok .cell-in) (within-neg (ok .acceptable .sofs-in))) (ok .acceptable .sgai-in)) (omega arith)
 
-  raw-system-in : (rawSystemAt c l s i) within 34078720000
-  unfolding rawSystemAt
-  raw-system-in = scaled-within (cellAt c l i -ℤ s .sofs) (s .sgai) (within-more raw-system-product-in (omega arith))
+  raw-system-in : (rawSystemFrom s cell) within 34078720000
+  raw-system-in = scaled-within (cell -ℤ s .sofs) (s .sgai) (within-more raw-system-product-in (omega arith))
 
-  sraw-in : (srawAt c l s i) within 2097152000
-  unfolding srawAt
-  sraw-in = hold-within (s .smin) (s .smax) (rawSystemAt c l s i) (ok .system-ok .smin-in) (ok .system-ok .smax-in)
+  sraw-in : (hold (s .smin) (s .smax) (rawSystemFrom s cell)) within 2097152000
+  sraw-in = hold-within (s .smin) (s .smax) (rawSystemFrom s cell) (ok .acceptable .smin-in) (ok .acceptable .smax-in)
 
-  sys-in : (sysAt c l s i) within 4194304000
-  unfolding sysAt
-  sys-in = within-add sraw-in (within-neg (ok .system-ok .sz-in))
+  sys-in : (hold (s .smin) (s .smax) (rawSystemFrom s cell) -ℤ s .sz) within 4194304000
+  sys-in = within-add sraw-in (within-neg (ok .acceptable .sz-in))
 
 -- ---- all of them
 
-pub record Magnitudes (c : Cell) (l : Linearity) (s : System) (i : Input) : Type 0 where
+-- of steps 3 and 4
+pub record CellMagnitudes (c : Cell) (l : Linearity) (i : Input) : Type 0 where
   pub y-within : (yAt c i) within 2600468480
   pub raw-cell-within : (rawCellAt c i) within 2860515323
   pub craw-within : (crawAt c i) within 2097152000
   pub cell-within : (cellAt c l i) within 2162688000
-  pub raw-system-within : (rawSystemAt c l s i) within 34078720000
-  pub sraw-within : (srawAt c l s i) within 2097152000
-  pub sys-within : (sysAt c l s i) within 4194304000
 
-pub magnitudes : (c : Cell) (l : Linearity) (s : System) (i : Input) → StepsInput c l s i → Magnitudes c l s i
-magnitudes c l s i ok = record {
-  y-within = y-in c l s i ok;
-  raw-cell-within = raw-cell-in c l s i ok;
-  craw-within = craw-in c l s i ok;
-  cell-within = cell-in c l s i ok;
-  raw-system-within = raw-system-in c l s i ok;
-  sraw-within = sraw-in c l s i ok;
-  sys-within = sys-in c l s i ok;
+pub cell-magnitudes : (c : Cell) (l : Linearity) (i : Input) → CellInput c l i → CellMagnitudes c l i
+cell-magnitudes c l i ok = record {
+  y-within = y-in c l i ok;
+  raw-cell-within = raw-cell-in c l i ok;
+  craw-within = craw-in c l i ok;
+  cell-within = cell-in c l i ok;
 }
 
--- what steps 1 and 2 give by acceptable figures is what the others may be handed
-pub steps-input : (c : Calibration) (elec temp : ℤ) → Acceptable c → elec within elecMost → StepsInput (c .cell) (c .linearity) (c .system) (inputAt (c .temperature) elec temp)
-steps-input c elec temp ok held = record {
-  cell-ok = ok .cell-ok;
-  linearity-ok = ok .linearity-ok;
-  system-ok = ok .system-ok;
-  elec-in = held;
-  o-in = interpolated-within 1 (temperatures (c .temperature)) temp (ok .temperature-ok .cto-in);
-  g-in = interpolated-within 2 (temperatures (c .temperature)) temp (ok .temperature-ok .ctg-in);
-}
+-- of step 5
+pub record SystemMagnitudes (s : System) (cell : ℤ) : Type 0 where
+  pub raw-system-within : (rawSystemFrom s cell) within 34078720000
+  pub sraw-within : (hold (s .smin) (s .smax) (rawSystemFrom s cell)) within 2097152000
+  pub sys-within : (hold (s .smin) (s .smax) (rawSystemFrom s cell) -ℤ s .sz) within 4194304000
 
-pub magnitudes-of : (c : Calibration) (elec temp : ℤ) → Acceptable c → elec within elecMost → Magnitudes (c .cell) (c .linearity) (c .system) (inputAt (c .temperature) elec temp)
-magnitudes-of c elec temp ok held = magnitudes (c .cell) (c .linearity) (c .system) (inputAt (c .temperature) elec temp) (steps-input c elec temp ok held)
+pub system-magnitudes : (s : System) (cell : ℤ) → SystemInput s cell → SystemMagnitudes s cell
+system-magnitudes s cell ok = record { raw-system-within = raw-system-in s cell ok; sraw-within = sraw-in s cell ok; sys-within = sys-in s cell ok }
+
+-- ---- what each step gives by acceptable figures is what the next may be handed
+
+module _ (c : Calibration) (elec temp : ℤ) (ok : Acceptable c) (held : elec within elecMost) where
+  pub cell-input : CellInput (c .cell) (c .linearity) (inputAt (c .temperature) elec temp)
+  cell-input = record {
+    cell-ok = ok .cell-ok;
+    linearity-ok = ok .linearity-ok;
+    elec-in = held;
+    o-in = interpolated-within 1 (temperatures (c .temperature)) temp (ok .temperature-ok .cto-in);
+    g-in = interpolated-within 2 (temperatures (c .temperature)) temp (ok .temperature-ok .ctg-in);
+  }
+
+  pub cell-magnitudes-of : CellMagnitudes (c .cell) (c .linearity) (inputAt (c .temperature) elec temp)
+  cell-magnitudes-of = cell-magnitudes (c .cell) (c .linearity) (inputAt (c .temperature) elec temp) cell-input
+
+  pub compensate-input : CompensateInput (c .cell) (c .system) (cellValuesAt (c .cell) (c .linearity) (inputAt (c .temperature) elec temp))
+  unfolding cellValuesAt crawAt
+  compensate-input = record { cell-ok = ok .cell-ok; system-in = record { acceptable = ok .system-ok; cell-in = cell-magnitudes-of .cell-within }; craw-held = refl }
+
+  pub system-magnitudes-of : SystemMagnitudes (c .system) (cell c elec temp)
+  unfolding cellValuesAt
+  system-magnitudes-of = system-magnitudes (c .system) (cell c elec temp) (compensate-input .system-in)

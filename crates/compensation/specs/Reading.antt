@@ -1,6 +1,5 @@
 -- Steps 2 to 5 (01, "The reading"), in whole numbers. A step takes the part of the figures that it needs; by the whole figures,
 -- ELEC as the filter holds it, and TEMP, each has its own name below.
-use mathlib.Core.Bool.{Bool}
 use lib.IntN.{ℤ, pos, _+ℤ_, _-ℤ_, _*ℤ_}
 use Rattle.arithmetic.specs.Round.{roundDiv}
 use Rattle.arithmetic.specs.Table.{interpolated}
@@ -8,11 +7,9 @@ use Rattle.figures.specs.Limits.{unit}
 use Rattle.figures.specs.Acceptable.{temperatures, linearities}
 use Rattle.figures.specs.declared.Calibration.{Calibration}
 use Rattle.figures.specs.declared.Cell.{Cell}
-use Rattle.figures.specs.declared.Filter.{Filter}
 use Rattle.figures.specs.declared.Linearity.{Linearity}
 use Rattle.figures.specs.declared.System.{System}
 use Rattle.figures.specs.declared.Temperature.{Temperature}
-use Rattle.compensation.specs.Filter.{filtered}
 use Rattle.compensation.specs.Hold.{hold}
 use Rattle.compensation.specs.declared.steps.Input.{Input}
 
@@ -27,10 +24,6 @@ scaled x gain = roundDiv (x *ℤ gain) one
 -- 2. "o and g are CTO and CTG interpolated at TEMP.", beside ELEC as the filter holds it
 abbrev pub inputAt : Temperature → ℤ → ℤ → Input
 inputAt t elec temp = record { elec = elec; o = interpolated 1 (temperatures t) temp; g = interpolated 2 (temperatures t) temp }
-
--- 1 and 2
-abbrev pub inputOf : Filter → Temperature → Bool → ℤ → ℤ → ℤ → Input
-inputOf filter temperature first held elec temp = inputAt temperature (filtered filter first held elec) temp
 
 -- 3. "y = round((ELEC − COFS − o) × CGAI ÷ 2^28). Raw cell = round(y × (2^28 + g) ÷ 2^28). CRAW is this held within CMIN and
 -- CMAX."
@@ -48,8 +41,11 @@ unfoldable pub cellAt : Cell → Linearity → Input → ℤ
 cellAt c l i = crawAt c i +ℤ interpolated 1 (linearities l) (crawAt c i)
 
 -- 5. "Raw system = round((CELL − SOFS) × SGAI ÷ 2^28). SRAW is this held within SMIN and SMAX. SYS = SRAW − SZ."
+abbrev pub rawSystemFrom : System → ℤ → ℤ
+rawSystemFrom s cell = scaled (cell -ℤ s .sofs) (s .sgai)
+
 unfoldable pub rawSystemAt : Cell → Linearity → System → Input → ℤ
-rawSystemAt c l s i = scaled (cellAt c l i -ℤ s .sofs) (s .sgai)
+rawSystemAt c l s i = rawSystemFrom s (cellAt c l i)
 
 unfoldable pub srawAt : Cell → Linearity → System → Input → ℤ
 srawAt c l s i = hold (s .smin) (s .smax) (rawSystemAt c l s i)

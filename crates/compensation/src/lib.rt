@@ -5,7 +5,10 @@ mod stat;
 mod steps;
 mod tables;
 
+pub use filter::filter_input;
+pub use steps::CellValues;
 pub use steps::Input;
 pub use steps::Values;
+pub use steps::cell_values;
 pub use steps::compensate;
-pub use steps::input_of;
+pub use steps::input_at;

@@ -1,20 +1,17 @@
-// Steps 3 to 5 (01, "The reading"), and what steps 1 and 2 hand to them.
+// Steps 2 to 5 (01, "The reading").
 ghost use mathlib.Core.Path.{_≡_};
 ghost use lib.IntN.{_+ℤ_, _-ℤ_, _*ℤ_};
 ghost use Rattle.integers.specs.Within.{_within_};
 ghost use Rattle.arithmetic.specs.Table.{interpolated};
 ghost use Rattle.figures.specs.Acceptable.{linearities, TemperatureAcceptable};
-ghost use Rattle.compensation.specs.Filter.{FilterInput};
 ghost use Rattle.compensation.specs.Hold.{hold};
-ghost use Rattle.compensation.specs.Reading.{one, scaled, inputOf};
-ghost use Rattle.compensation.specs.Values.{valuesAt, StepsInput, GainInput, AdjustInput, CorrectInput, SystemInput, NetInput};
-use crate::filter::filter_input;
+ghost use Rattle.compensation.specs.Reading.{one, scaled, inputAt};
+ghost use Rattle.compensation.specs.Values.{cellValuesAt, valuesFrom, CellInput, CompensateInput, GainInput, AdjustInput, CorrectInput, SystemInput, NetInput};
 use crate::stat::stat_bits;
 use crate::tables::adjustments;
 use crate::tables::correction;
 use figures::Calibration;
 use figures::Cell;
-use figures::Filter;
 use figures::Linearity;
 use figures::System;
 use figures::Temperature;
@@ -24,6 +21,13 @@ pub struct Input {
     pub elec: i64,
     pub o: i64,
     pub g: i64,
+}
+
+// What steps 3 and 4 give: the raw cell value, CRAW and CELL.
+pub struct CellValues {
+    pub raw: i64,
+    pub craw: i64,
+    pub cell: i64,
 }
 
 // What a reading leaves.
@@ -36,20 +40,14 @@ pub struct Values {
     pub stat: u16,
 }
 
-// Steps 1 and 2, from the value that the filter holds, or none yet at the first reading, and ELEC and TEMP as they come.
-pub fn input_of(
-    filter: Filter,
-    temperature: Temperature,
-    first: bool,
-    held: i64,
-    elec: i64,
-    temp: i64,
-) -> Input
-    requires { ⌜ FilterInput filter held elec ⌝ }
+// Each function below takes only the part of the figures that its steps need, so that a caller who keeps the figures in a record
+// reads each part when it is due, and copies no other.
+
+// Step 2, beside ELEC as the filter holds it.
+pub fn input_at(temperature: Temperature, elec: i64, temp: i64) -> Input
     requires { ⌜ TemperatureAcceptable temperature ⌝ }
-    ensures { λ r. ⌜ r ≡ inputOf filter temperature first held elec temp ⌝ }
+    ensures { λ r. ⌜ r ≡ inputAt temperature elec temp ⌝ }
 {
-    let elec = filter_input(filter, first, held, elec);
     let adjustment = adjustments(temperature, temp);
     Input {
         elec,
@@ -58,38 +56,49 @@ pub fn input_of(
     }
 }
 
-// CRAW, CELL, SRAW, SYS and STAT. Only the figures that these steps need are handed over, so that a caller who keeps the figures
-// in a record copies no others.
+// Steps 3 and 4.
+pub fn cell_values(cell: Cell, linearity: Linearity, input: Input) -> CellValues
+    requires { ⌜ CellInput cell linearity input ⌝ }
+    ensures { λ r. ⌜ r ≡ cellValuesAt cell linearity input ⌝ }
+{
+    let y = gained(cell, input.o, input.elec);
+    let raw = adjusted(y, input.g);
+    let craw = hold_cell(cell, raw);
+    let corrected_cell = corrected(linearity, craw);
+    CellValues {
+        raw,
+        craw,
+        cell: corrected_cell,
+    }
+}
+
+// Step 5, and STAT.
 pub fn compensate(
     cell: Cell,
-    linearity: Linearity,
     system: System,
-    input: Input,
+    values: CellValues,
+    elec: i64,
     temp: i64,
     integrity: u8,
 ) -> Values
-    requires { ⌜ StepsInput cell linearity system input ⌝ }
-    ensures { λ r. ⌜ r ≡ valuesAt cell linearity system input temp integrity ⌝ }
+    requires { ⌜ CompensateInput cell system values ⌝ }
+    ensures { λ r. ⌜ r ≡ valuesFrom cell system values elec temp integrity ⌝ }
 {
-    let y = gained(cell, input.o, input.elec);
-    let raw_cell = adjusted(y, input.g);
-    let craw = hold_cell(cell, raw_cell);
-    let corrected_cell = corrected(linearity, craw);
-    let raw_system = scaled_system(system, corrected_cell);
+    let raw_system = scaled_system(system, values.cell);
     let sraw = hold_system(system, raw_system);
     let sys = net(system, sraw);
     let stat = stat_bits(
-        input.elec,
+        elec,
         temp,
         integrity,
-        raw_cell,
-        craw,
+        values.raw,
+        values.craw,
         raw_system,
         sraw,
     );
     Values {
-        craw,
-        cell: corrected_cell,
+        craw: values.craw,
+        cell: values.cell,
         sraw,
         sys,
         stat,

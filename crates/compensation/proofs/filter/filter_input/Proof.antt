@@ -1,21 +1,23 @@
 -- `filter_input` meets its contract, case by case of the rule (FilterCases.antt). Assumes nothing.
+use borrow.Author.Needs.{needs}
 use mathlib.Core.Path.{_≡_, sym, _∙_, ap}
-use lib.IntN.{ℤ, pos, _+ℤ_, _-ℤ_}
-use lib.Signed.{_≤ℤ_, _<ℤ_}
+use mathlib.Core.Bool.{false}
+use native.Mathlib.Omega.{arith}
+use lib.IntN.{ℤ, pos, natAbs, _+ℤ_, _-ℤ_}
+use lib.Signed.{_<ℤ_, yes-nonNeg}
 use mir.Syntax.{w64}
-use mir.Val.{SFits}
+use mir.Val.{SFits, toZ, ofZ}
 use mir.ValLaws.{toZ-ofZ}
 use Rattle.integers.specs.Within.{_within_}
 use Rattle.integers.proofs.Parts.{ints}
 use Rattle.integers.proofs.Difference.{⟨_⟩, nat, minus, le! }
-use Rattle.integers.proofs.Order.{lt-yes, lt-no}
 use Rattle.integers.proofs.Magnitude.{within-of}
 use Rattle.integers.proofs.Machine.{fits, small, i64s, known, lt-plain}
 use Rattle.arithmetic.specs.Round.{roundDiv}
 use Rattle.figures.specs.Limits.{fflvMost, ffstMost}
 use Rattle.compensation.specs.Filter.{elecMost, filtered}
 use Rattle.compensation.proofs.FilterHull.{filtered-within, on-pos}
-use Rattle.compensation.proofs.FilterCases.{zero-bits, not-zero-bits, beyond-above, beyond-below, not-beyond, at-first, no-level, no-steps, too-far, one-step}
+use Rattle.compensation.proofs.FilterCases.{zero-bits, not-zero-bits, beyond, not-beyond, at-first, no-steps, too-far, one-step}
 use Rattle.compensation.proofs.filter.filter_input.Statement.{statement}
 use Rattle.compensation.proofs.filter.filter_input.Tie as tie
 
@@ -26,69 +28,62 @@ module _ (s : tie.Start) where
   steps-in : (s .args .f .ffst) within ffstMost
   steps-in = within-of (le! (minus (nat ffstMost)) ⟨ s .args .f .ffst ⟩ (omega (ints, s .pre .acceptable .ffst-least))) (s .pre .acceptable .ffst-most)
 
+  level-fits : SFits w64 (s .args .f .fflv)
+  level-fits = fits (known level-in) tt
+
+  change-fits : SFits w64 (s .args .input -ℤ s .args .held)
+  change-fits = fits (search i64s depth 9) tt
+
+cast-level : tie.Need-cast-level
+cast-level c =
+    let s = c .before .before in
+    simp (toZ-ofZ, level-fits s) (yes-nonNeg (s .pre .acceptable .fflv-least), record { fits = omega (arith, level-in s .abs) })
+
 returns : tie.Need-returns
 returns c =
-    let s = c .before in
+    let s = c .before .before .before .before in
     toZ-ofZ w64 _ (s .fits .input) ∙ sym (at-first (s .args .f) (s .args .first) (s .args .held) (s .args .input) (c .if1 .taken))
 
 returns-2 : tie.Need-returns-2
 returns-2 c =
-    let s = c .before .before .before .before in
-    let zero = zero-bits (s .args .f .fflv) (fits (known (level-in s)) tt) (c .if2 .taken) in
-    toZ-ofZ w64 _ (s .fits .input) ∙ sym (no-level (s .args .f) (s .args .first) (s .args .held) (s .args .input) zero)
-
-returns-3 : tie.Need-returns-3
-returns-3 c =
     let s = c .before .before .before .before .before in
-    let zero = zero-bits (s .args .f .ffst) (fits (known (steps-in s)) tt) (c .if3 .taken) in
+    let zero = zero-bits (s .args .f .ffst) (fits (known (steps-in s)) tt) (c .if2 .taken) in
     toZ-ofZ w64 _ (s .fits .input) ∙ sym (no-steps (s .args .f) (s .args .first) (s .args .held) (s .args .input) zero)
 
 sub-change : tie.Need-sub-change
 sub-change c = let p = c .before .before .before .before .before .pre in fits (search i64s depth 9) tt
 
-change-fits : (s : tie.Start) → SFits w64 (s .args .input -ℤ s .args .held)
-change-fits s = fits (search i64s depth 9) tt
+magnitude-requires : tie.Need-magnitude-requires
+magnitude-requires c κs = search needs
 
-turned-fits : (s : tie.Start) → SFits w64 (pos 0 -ℤ (s .args .input -ℤ s .args .held))
-turned-fits s = fits (search i64s depth 9) tt
+-- the sizes that are compared
+level-is : (s : tie.Start) → natAbs (toZ w64 (ofZ w64 (s .args .f .fflv))) ≡ natAbs (s .args .f .fflv)
+level-is s = rw (toZ-ofZ w64 _ (level-fits s))
 
-returns-4 : tie.Need-returns-4
-returns-4 c =
-    let s = c .before .before .before .before .before .before in
-    let h : s .args .f .fflv <ℤ (s .args .input -ℤ s .args .held) = lt-yes (simp (toZ-ofZ, s .fits .input, s .fits .held, change-fits s, fits (known (level-in s)) tt) at (c .if4 .taken)) in
-    toZ-ofZ w64 _ (s .fits .input) ∙ sym (too-far (s .args .f) (s .args .first) (s .args .held) (s .args .input) (beyond-above (s .args .f .fflv) (s .args .input -ℤ s .args .held) h))
+change-is : (c : tie.After-magnitude) → let s = c .before .before .before .before .before .before in c .magnitude .result ≡ natAbs (s .args .input -ℤ s .args .held)
+change-is c = let s = c .before .before .before .before .before .before in simp (toZ-ofZ, s .fits .input, s .fits .held, change-fits s) at (c .magnitude .ensures)
 
-sub-if5 : tie.Need-sub-if5
-sub-if5 c = let p = c .before .before .before .before .before .before .pre in fits (search i64s depth 9) tt
-
-returns-5 : tie.Need-returns-5
-returns-5 c =
+returns-3 : tie.Need-returns-3
+returns-3 c =
     let s = c .before .before .before .before .before .before .before in
-    let h : s .args .f .fflv <ℤ (pos 0 -ℤ (s .args .input -ℤ s .args .held)) = lt-yes (simp (toZ-ofZ, s .fits .input, s .fits .held, change-fits s, turned-fits s, fits (known (level-in s)) tt) at (c .if5 .taken)) in
-    toZ-ofZ w64 _ (s .fits .input) ∙ sym (too-far (s .args .f) (s .args .first) (s .args .held) (s .args .input) (beyond-below (s .args .f .fflv) (s .args .input -ℤ s .args .held) h))
+    let far = beyond (s .args .f .fflv) (s .args .input -ℤ s .args .held) (s .pre .acceptable .fflv-least) (rw (level-is s, change-is (c .before)) at (c .if3 .taken)) in
+    toZ-ofZ w64 _ (s .fits .input) ∙ sym (too-far (s .args .f) (s .args .first) (s .args .held) (s .args .input) far)
 
 -- a step is taken: the filter is on, and the input is not beyond FFLV
-module _ (c : tie.Else5) where
+module _ (c : tie.Else3) where
   start : tie.Start
   start = c .before .before .before .before .before .before .before
 
   steps-pos : pos 0 <ℤ (start .args .f .ffst)
   unfolding start
-  steps-pos =
-      let s = c .before .before .before .before .before .before .before in
-      on-pos (s .args .first) (s .args .f .fflv) (s .args .f .ffst) (s .pre .acceptable .ffst-least)
-      (rw (c .before .before .before .before .before .before .if1 .left, not-zero-bits (s .args .f .fflv) (c .before .before .before .if2 .left), not-zero-bits (s .args .f .ffst) (c .before .before .if3 .left)))
+  steps-pos = let s = c .before .before .before .before .before .before .before in on-pos false (pos 1) (s .args .f .ffst) (s .pre .acceptable .ffst-least) (not-zero-bits (s .args .f .ffst) (c .before .before .if2 .left))
 
   rule : filtered (start .args .f) (start .args .first) (start .args .held) (start .args .input) ≡ start .args .held +ℤ roundDiv (start .args .input -ℤ start .args .held) (start .args .f .ffst)
   unfolding start
   rule =
       let s = c .before .before .before .before .before .before .before in
-      let change = s .args .input -ℤ s .args .held in
-      let above : change ≤ℤ s .args .f .fflv = lt-no (simp (toZ-ofZ, s .fits .input, s .fits .held, change-fits s, fits (known (level-in s)) tt) at (c .before .if4 .left)) in
-      let below : (pos 0 -ℤ change) ≤ℤ s .args .f .fflv = lt-no (simp (toZ-ofZ, s .fits .input, s .fits .held, change-fits s, turned-fits s, fits (known (level-in s)) tt) at (c .if5 .left)) in
-      one-step (s .args .f) (s .args .first) (s .args .held) (s .args .input) (c .before .before .before .before .before .before .if1 .left)
-      (not-zero-bits (s .args .f .fflv) (c .before .before .before .if2 .left)) (not-zero-bits (s .args .f .ffst) (c .before .before .if3 .left))
-      (not-beyond (s .args .f .fflv) change above below)
+      let near = not-beyond (s .args .f .fflv) (s .args .input -ℤ s .args .held) (s .pre .acceptable .fflv-least) (rw (level-is s, change-is (c .before)) at (c .if3 .left)) in
+      one-step (s .args .f) (s .args .first) (s .args .held) (s .args .input) (c .before .before .before .if1 .left) (not-zero-bits (s .args .f .ffst) (c .before .before .if2 .left)) steps-pos near
 
 round-div-requires : tie.Need-round-div-requires
 unfolding start
@@ -120,13 +115,11 @@ add-result c =
     let r : SFits w64 (c .round-div .result) = record { sfits = c .round-div .ok } in
     simp (toZ-ofZ, c .before .before .before .before .before .before .before .before .fits .held, r) (sum-fits c)
 
-returns-6 : tie.Need-returns-6
+returns-4 : tie.Need-returns-4
 unfolding start
-returns-6 c =
+returns-4 c =
     let r : SFits w64 (c .round-div .result) = record { sfits = c .round-div .ok } in
     simp (toZ-ofZ, c .before .before .before .before .before .before .before .before .fits .held, r, sum-fits c) (sum-is c)
 
 pub filter-input-spec : {M : Type 1} → statement M
-filter-input-spec =
-    tie.close
-    (tie.spec returns returns-2 returns-3 sub-change returns-4 sub-if5 returns-5 round-div-requires add-result returns-6)
+filter-input-spec = tie.close (tie.spec cast-level returns returns-2 sub-change magnitude-requires returns-3 round-div-requires add-result returns-4)
