@@ -5,14 +5,18 @@ use mathlib.Core.List.{List}
 use Prim.Native.Nat.{ℕ}
 use lib.IntN.{ℤ}
 use lib.ListN.{length}
+use Rattle.integers.specs.Within.{_within_}
 use Rattle.figures.specs.Acceptable.{TemperatureAcceptable}
-use Rattle.compensation.specs.Filter.{FilterInput}
-use Rattle.compensation.specs.Values.{StepsInput}
+use Rattle.compensation.specs.Filter.{FilterInput, elecMost}
+use Rattle.compensation.specs.Reading.{inputAt}
+use Rattle.compensation.specs.Values.{cellValuesAt, valuesFrom, valuesAt, CellInput, CompensateInput}
+use Rattle.compensation.specs.declared.steps.CellValues.{CellValues}
 use Rattle.compensation.specs.declared.steps.Input.{Input}
-use Rattle.compensation.proofs.Magnitudes.{steps-input}
+use Rattle.compensation.specs.declared.steps.Values.{Values}
+use Rattle.compensation.proofs.Magnitudes.{cell-input, compensate-input}
 use Rattle.modbus.specs.Frame.{judged}
 use Rattle.modbus.specs.declared.frame.Frame.{Frame}
-use Rattle.state.specs.Reading.{badReading, heldAfter, inputAfter, taken, takenAt}
+use Rattle.state.specs.Reading.{badReading, heldAfter, taken, takenWith}
 use Rattle.state.specs.Request.{setupBy, stateBy}
 use Rattle.state.specs.Register.{answered, numberOf}
 use Rattle.state.specs.declared.Setup.{Setup}
@@ -34,26 +38,30 @@ module _ {d : Device} (h : Reached d) (elec temp : ℤ) (integrity : ℕ) where
   pub refuses : badReading elec temp integrity ≡ true → Reading d elec temp integrity (record { number = 9; device = d })
   refuses b = gives (rw b refl)
 
-  -- what `input_of` asks
-  pub filters : badReading elec temp integrity ≡ false → FilterInput (d .setup .figures .filter) (d .state .readings .elec) elec × TemperatureAcceptable (d .setup .figures .temperature)
-  filters b =
-      let s = reached-sound h in
-      (record { acceptable = s .acceptable .filter-ok; held-in = s .state-ok .readings-ok .held-in; input-in = good-elec elec temp integrity b }, s .acceptable .temperature-ok)
+  -- a good one: what each function that is called asks, by what those before it gave
+  module _ (good : badReading elec temp integrity ≡ false) where
+    pub filters : FilterInput (d .setup .figures .filter) (d .state .readings .elec) elec
+    filters = let s = reached-sound h in record { acceptable = s .acceptable .filter-ok; held-in = s .state-ok .readings-ok .held-in; input-in = good-elec elec temp integrity good }
 
-  -- what `take` asks, of the input that it gave
-  pub takes : {i : Input} → badReading elec temp integrity ≡ false → i ≡ inputAfter (d .setup .figures .filter) (d .setup .figures .temperature) (d .state .readings) elec temp
-      → StepsInput (d .setup .figures .cell) (d .setup .figures .linearity) (d .setup .figures .system) i
-  takes b e =
-      let s = reached-sound h in
-      rw e (steps-input (d .setup .figures) (heldAfter (d .setup .figures) (d .state .readings) elec) temp (s .acceptable)
-      (held-within (d .setup .figures) (d .state .readings) elec (s .acceptable) (s .state-ok .readings-ok .held-in) (good-elec elec temp integrity b)))
+    pub adjusts : TemperatureAcceptable (d .setup .figures .temperature)
+    adjusts = reached-sound h .acceptable .temperature-ok
 
-  -- and what the state that it gave makes of the device
-  pub joins : {i : Input} {s : State} → badReading elec temp integrity ≡ false → i ≡ inputAfter (d .setup .figures .filter) (d .setup .figures .temperature) (d .state .readings) elec temp
-      → s ≡ takenAt (d .setup .figures .cell) (d .setup .figures .linearity) (d .setup .figures .system) (d .state) i temp integrity
-      → Reading d elec temp integrity (record { number = 0; device = record { setup = d .setup; state = s } })
-  unfolding taken
-  joins b e f = gives (rw (b, f, e) refl)
+    kept : (heldAfter (d .setup .figures) (d .state .readings) elec) within elecMost
+    kept = let s = reached-sound h in held-within (d .setup .figures) (d .state .readings) elec (s .acceptable) (s .state-ok .readings-ok .held-in) (good-elec elec temp integrity good)
+
+    module _ {held : ℤ} {i : Input} (held-is : held ≡ heldAfter (d .setup .figures) (d .state .readings) elec) (i-is : i ≡ inputAt (d .setup .figures .temperature) held temp) where
+      pub corrects : CellInput (d .setup .figures .cell) (d .setup .figures .linearity) i
+      corrects = rw (i-is, held-is) (cell-input (d .setup .figures) _ temp (reached-sound h .acceptable) kept)
+
+      module _ {k : CellValues} (k-is : k ≡ cellValuesAt (d .setup .figures .cell) (d .setup .figures .linearity) i) where
+        pub compensates : CompensateInput (d .setup .figures .cell) (d .setup .figures .system) k
+        compensates = rw (k-is, i-is, held-is) (compensate-input (d .setup .figures) _ temp (reached-sound h .acceptable) kept)
+
+        -- and what the state that is given last makes of the device
+        pub joins : {v : Values} {s : State} → v ≡ valuesFrom (d .setup .figures .cell) (d .setup .figures .system) k held temp integrity → s ≡ takenWith (d .state) held temp v
+            → Reading d elec temp integrity (record { number = 0; device = record { setup = d .setup; state = s } })
+        unfolding taken valuesAt
+        joins v-is s-is = gives (rw (good, s-is, v-is, k-is, i-is, held-is) refl)
 
 -- ---- a frame
 

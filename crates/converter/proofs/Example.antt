@@ -15,7 +15,7 @@ use Rattle.compensation.specs.Hold.{hold}
 use Rattle.compensation.specs.Filter.{filtered}
 use Rattle.compensation.specs.Reading.{scaled, yAt, rawCellAt, crawAt, cellAt, rawSystemAt, srawAt, sysAt}
 use Rattle.compensation.specs.Stat.{bitAt, Raised, crawor, statOf}
-use Rattle.compensation.specs.Values.{valuesAt}
+use Rattle.compensation.specs.Values.{cellValuesAt, valuesFrom, valuesAt}
 use Rattle.binary32.specs.Received.{zeroFits, nearestStep, zeroSteps}
 use Rattle.modbus.specs.Checksum.{shifted, shifts, taken}
 use Rattle.modbus.specs.Register.{accessOf}
@@ -56,7 +56,7 @@ pub record Example (d : Device) : Type 0 where
   pub sz : d .setup .figures .system .sz ≡ pos 655360
 
 pub example : Example (run start calls)
-unfolding roundDiv floorDiv between interpolated defaultSheet temperatures linearities hold filtered scaled yAt rawCellAt crawAt cellAt rawSystemAt srawAt sysAt bitAt statOf valuesAt zeroFits nearestStep zeroSteps ofBits shifted shifts taken accessOf checked toUs forUs accessAsked writeOf writeAsked judged outside badReading larger smaller peakAfter trofAfter joined reading.takenAt reading.taken zeroBy fresh snapped acted written stateBy
+unfolding roundDiv floorDiv between interpolated defaultSheet temperatures linearities hold filtered scaled yAt rawCellAt crawAt cellAt rawSystemAt srawAt sysAt bitAt statOf cellValuesAt valuesFrom valuesAt zeroFits nearestStep zeroSteps ofBits shifted shifts taken accessOf checked toUs forUs accessAsked writeOf writeAsked judged outside badReading larger smaller peakAfter trofAfter joined reading.takenWith reading.taken zeroBy fresh snapped acted written stateBy
 example = record {
   reached = record { sheet = sheetBytes defaultSheet; station = 52; accepted = ap (λ (r : Outcome). r .number) default-made; calls = calls; is = sym (ap (λ (r : Outcome). run (r .device) calls) default-made) };
   reading = refl;

@@ -20,7 +20,7 @@ use Rattle.binary32.specs.Received.{zeroSteps, flagWhole}
 use Rattle.modbus.specs.Frame.{judged}
 use Rattle.modbus.specs.declared.frame.Frame.{Frame}
 use Rattle.modbus.specs.declared.frame.Frame.the-variants.{Refused, Read, Write, Act}
-use Rattle.state.specs.Reading.{badReading, peakAfter, trofAfter, joined, heldAfter, taken, takenAt}
+use Rattle.state.specs.Reading.{badReading, peakAfter, trofAfter, joined, heldAfter, taken, takenWith}
 use Rattle.state.specs.Request.{reboot, withZero, zeroBy, fresh, snapped, peaksAt, peaksReset, acted, written, stateBy}
 use Rattle.state.specs.declared.Setup.{Setup}
 use Rattle.state.specs.declared.Readings.{Readings}
@@ -95,7 +95,7 @@ joins r held es t k ok e = record {
 
 reads : (d : Device) (l : Log) → Tracks d l → (elec temp : ℤ) (integrity : ℕ) → badReading elec temp integrity ≡ false
     → Tracks (read d elec temp integrity) (join l (keptOf l elec temp integrity))
-unfolding taken takenAt
+unfolding taken takenWith
 reads d l t elec temp integrity g = record {
   setup-is = t .setup-is;
   tells = subst (λ (r : Readings). Tells r (some (k .elec)) (log.joined k ∷ l .readings)) (sym same-readings) (joins (d .state .readings) (l .held) (l .readings) (t .tells) k ok within-held);

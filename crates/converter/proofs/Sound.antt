@@ -15,16 +15,16 @@ use Rattle.figures.specs.Acceptable.{Acceptable}
 use Rattle.figures.specs.Limits.{szMost}
 use Rattle.figures.specs.declared.Calibration.{Calibration}
 use Rattle.compensation.specs.Filter.{elecMost}
-use Rattle.compensation.specs.Reading.{sys}
-use Rattle.compensation.specs.Values.{valuesAt, valuesOf}
+use Rattle.compensation.specs.Reading.{rawSystemAt, srawAt, sysAt, sys}
+use Rattle.compensation.specs.Values.{cellValuesAt, valuesFrom, valuesAt, valuesOf}
 use Rattle.compensation.proofs.FilterHull.{filtered-within}
-use Rattle.compensation.proofs.Magnitudes.{magnitudes-of}
+use Rattle.compensation.proofs.Magnitudes.{cell-magnitudes-of, system-magnitudes-of}
 use Rattle.binary32.specs.Received.{zeroSteps}
 use Rattle.binary32.proofs.Bounded.{zero-within}
 use Rattle.modbus.specs.declared.frame.Frame.{Frame}
 use Rattle.modbus.specs.declared.frame.Frame.the-variants.{Refused, Read, Write, Act}
 use Rattle.modbus.specs.Frame.{judged}
-use Rattle.state.specs.Reading.{tempMost, outside, beyond, badReading, larger, smaller, peakAfter, trofAfter, joined, heldAfter, taken, takenAt}
+use Rattle.state.specs.Reading.{tempMost, outside, beyond, badReading, larger, smaller, peakAfter, trofAfter, joined, heldAfter, taken, takenWith}
 use Rattle.state.specs.Request.{withZero, zeroBy, setupBy, noReadings, fresh, snapped, peaksAt, peaksReset, acted, written, stateBy}
 use Rattle.state.specs.Register.{valueMost, ReadingsWithin, StateWithin}
 use Rattle.state.specs.declared.Setup.{Setup}
@@ -86,17 +86,18 @@ smaller-within {n} a b h k = pick (ltZ b a) b a (λ z. z within n) (λ e. k) (λ
 
 join-sound : (c : Calibration) (r : Readings) (elec temp : ℤ) (integrity : ℕ) → Acceptable c → ReadingsSound r → elec within elecMost → temp within tempMost
     → ReadingsSound (joined r elec temp (valuesOf c elec temp integrity))
-unfolding joined peakAfter trofAfter valuesAt
+unfolding joined peakAfter trofAfter valuesAt valuesFrom cellValuesAt rawSystemAt srawAt sysAt
 join-sound c r elec temp integrity ok h e t =
-    let m = magnitudes-of c elec temp ok e in
+    let k = cell-magnitudes-of c elec temp ok e in
+    let m = system-magnitudes-of c elec temp ok e in
     let w = h .values-in in
     record {
       held-in = e;
       values-in = record {
         elec-in = within-more e (lit≤ tt);
         temp-in = within-more t (lit≤ tt);
-        craw-in = within-more (m .craw-within) (lit≤ tt);
-        cell-in = within-more (m .cell-within) (lit≤ tt);
+        craw-in = within-more (k .craw-within) (lit≤ tt);
+        cell-in = within-more (k .cell-within) (lit≤ tt);
         sraw-in = within-more (m .sraw-within) (lit≤ tt);
         sys-in = m .sys-within;
         peak-in = pick (r .any) (larger (r .peak) (sys c elec temp)) (sys c elec temp) (λ z. z within valueMost) (λ b. larger-within _ _ (w .peak-in) (m .sys-within)) (λ b. m .sys-within);
@@ -105,7 +106,7 @@ join-sound c r elec temp integrity ok h e t =
     }
 
 read-sound : (d : Device) (elec temp : ℤ) (integrity : ℕ) → Sound d → badReading elec temp integrity ≡ false → Sound (read d elec temp integrity)
-unfolding taken takenAt
+unfolding taken takenWith
 read-sound d elec temp integrity h e = record {
   acceptable = h .acceptable;
   state-ok = record {

@@ -67,22 +67,18 @@ impl Device {
         let setup = self.setup;
         let figures = setup.figures;
         let before = self.state;
-        let input = state::input_of(
-            figures.filter,
-            figures.temperature,
-            before.readings,
-            elec,
-            temp,
-        );
-        let state = state::take(
+        let held = state::held_after(figures.filter, before.readings, elec);
+        let input = compensation::input_at(figures.temperature, held, temp);
+        let cell = compensation::cell_values(figures.cell, figures.linearity, input);
+        let values = compensation::compensate(
             figures.cell,
-            figures.linearity,
             figures.system,
-            before,
-            input,
+            cell,
+            held,
             temp,
             integrity,
         );
+        let state = state::take(before, held, temp, values);
         let mut device = self;
         device.state = state;
         Outcome { number: 0, device }

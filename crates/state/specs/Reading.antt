@@ -6,15 +6,8 @@ use lib.Dec.{ltb}
 use lib.IntN.{ℤ, pos, negℤ}
 use lib.Signed.{ltZ}
 use Rattle.figures.specs.declared.Calibration.{Calibration}
-use Rattle.figures.specs.declared.Cell.{Cell}
-use Rattle.figures.specs.declared.Filter.{Filter}
-use Rattle.figures.specs.declared.Linearity.{Linearity}
-use Rattle.figures.specs.declared.System.{System}
-use Rattle.figures.specs.declared.Temperature.{Temperature}
 use Rattle.compensation.specs.Filter.{elecMost, filtered}
-use Rattle.compensation.specs.Reading.{inputOf}
-use Rattle.compensation.specs.Values.{valuesAt}
-use Rattle.compensation.specs.declared.steps.Input.{Input}
+use Rattle.compensation.specs.Values.{valuesOf}
 use Rattle.compensation.specs.declared.steps.Values.{Values}
 use Rattle.state.specs.declared.Readings.{Readings}
 use Rattle.state.specs.declared.State.{State}
@@ -54,16 +47,12 @@ joined r elec temp v = record { any = true; elec = elec; temp = temp; values = v
 abbrev pub heldAfter : Calibration → Readings → ℤ → ℤ
 heldAfter c r elec = filtered (c .filter) (not (r .any)) (r .elec) elec
 
--- 1 and 2
-abbrev pub inputAfter : Filter → Temperature → Readings → ℤ → ℤ → Input
-inputAfter f t r elec temp = inputOf f t (not (r .any)) (r .elec) elec temp
-
--- 3 to 6, by the parts of the figures that they need; "A reading raises its STAT bits in FLAG"
-unfoldable pub takenAt : Cell → Linearity → System → State → Input → ℤ → ℕ → State
-takenAt c l s state i temp integrity =
-    let v : Values = valuesAt c l s i temp integrity in
-    record { readings = joined (state .readings) (i .elec) temp v; flag = bitOr (state .flag) (v .stat); snapshot = state .snapshot }
+-- 6, by the values of the reading; "A reading raises its STAT bits in FLAG"
+unfoldable pub takenWith : State → ℤ → ℤ → Values → State
+takenWith s elec temp v = record { readings = joined (s .readings) elec temp v; flag = bitOr (s .flag) (v .stat); snapshot = s .snapshot }
 
 -- 1 to 6, by the figures c in force
 unfoldable pub taken : Calibration → State → ℤ → ℤ → ℕ → State
-taken c s elec temp integrity = takenAt (c .cell) (c .linearity) (c .system) s (inputAfter (c .filter) (c .temperature) (s .readings) elec temp) temp integrity
+taken c s elec temp integrity =
+    let held : ℤ = heldAfter c (s .readings) elec in
+    takenWith s held temp (valuesOf c held temp integrity)

@@ -1,18 +1,12 @@
 // A reading joins (01, "The reading"): its filtered input and values, PEAK and TROF, and its STAT bits in FLAG.
 ghost use mathlib.Core.Path.{_≡_};
-ghost use Rattle.figures.specs.Acceptable.{TemperatureAcceptable};
-ghost use Rattle.compensation.specs.Filter.{FilterInput};
-ghost use Rattle.compensation.specs.Values.{StepsInput};
-ghost use Rattle.state.specs.Reading.{outside, badReading, larger, smaller, peakAfter, trofAfter, joined, inputAfter, takenAt};
+ghost use mathlib.Core.Bool.{not};
+ghost use Rattle.compensation.specs.Filter.{filtered, FilterInput};
+ghost use Rattle.state.specs.Reading.{outside, badReading, larger, smaller, peakAfter, trofAfter, joined, takenWith};
 use crate::Readings;
 use crate::State;
-use compensation::Input;
 use compensation::Values;
-use figures::Cell;
 use figures::Filter;
-use figures::Linearity;
-use figures::System;
-use figures::Temperature;
 
 fn is_outside(least: i64, most: i64, v: i64) -> bool
     ensures { λ r. ⌜ r ≡ outside least most v ⌝ }
@@ -87,36 +81,19 @@ fn join(r: Readings, elec: i64, temp: i64, v: Values) -> Readings
     }
 }
 
-// Steps 1 and 2 of a reading that is not a bad one, after the readings before it.
-pub fn input_of(
-    filter: Filter,
-    temperature: Temperature,
-    before: Readings,
-    elec: i64,
-    temp: i64,
-) -> Input
+// Step 1 of a reading that is not a bad one, after the readings before it: the held value.
+pub fn held_after(filter: Filter, before: Readings, elec: i64) -> i64
     requires { ⌜ FilterInput filter (before .elec) elec ⌝ }
-    requires { ⌜ TemperatureAcceptable temperature ⌝ }
-    ensures { λ r. ⌜ r ≡ inputAfter filter temperature before elec temp ⌝ }
+    ensures { λ r. ⌜ r ≡ filtered filter (not (before .any)) (before .elec) elec ⌝ }
 {
-    compensation::input_of(filter, temperature, !before.any, before.elec, elec, temp)
+    compensation::filter_input(filter, !before.any, before.elec, elec)
 }
 
-// The other steps of it, and what the reading makes of the state, by the parts of the figures in force that they need.
-pub fn take(
-    cell: Cell,
-    linearity: Linearity,
-    system: System,
-    state: State,
-    input: Input,
-    temp: i64,
-    integrity: u8,
-) -> State
-    requires { ⌜ StepsInput cell linearity system input ⌝ }
-    ensures { λ n. ⌜ n ≡ takenAt cell linearity system state input temp integrity ⌝ }
+// What a reading makes of the state, by the held value, TEMP and its values.
+pub fn take(state: State, elec: i64, temp: i64, values: Values) -> State
+    ensures { λ n. ⌜ n ≡ takenWith state elec temp values ⌝ }
 {
-    let values = compensation::compensate(cell, linearity, system, input, temp, integrity);
-    let readings = join(state.readings, input.elec, temp, values);
+    let readings = join(state.readings, elec, temp, values);
     let mut next = state;
     next.readings = readings;
     next.flag = state.flag | values.stat;

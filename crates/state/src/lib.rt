@@ -8,7 +8,7 @@ mod requests;
 use compensation::Values;
 use figures::Calibration;
 pub use joining::bad_reading;
-pub use joining::input_of;
+pub use joining::held_after;
 pub use joining::take;
 pub use registers::Answer;
 pub use registers::answer_to;
