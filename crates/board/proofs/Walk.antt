@@ -20,7 +20,7 @@ pub use contract.Monad.{Fun, factI}
 pub use contract.Running.{givenOf, tables}
 unfoldable pub use contract.Running.{tablesOf}
 pub use types.Kit.{Given, Item, group, ‵, atRet, _⊛_, ⋆, _$_, _∵_, !, qed, by, move, keep, drop, use1, split, join, rewrite, fsplit, fsplit3, fjoin, fjoin3, feqL, feqI, suffices, frame, done}
-pub use types.Run.{unit-lit, look, init, stop, hop, fld, from, load, addr, of-opd, and-then, no-more, assigns, assigns-last, land, first, branches, skips, exec, returns, enter, alloc1, alloc0, params1, pass1, pass0, store-raw, lit, returns-within, look-raw}
+pub use types.Run.{unit-lit, look, init, stop, hop, fld, from, load, addr, of-opd, and-then, no-more, assigns, assigns-last, land, first, branches, skips, exec, returns, enter, alloc1, alloc0, params1, pass1, pass0, store-raw, store, lit, returns-within, look-raw}
 pub use types.Part.{agg, whole, sub, look-in, store-in}
 pub use types.SemTy.{Body}
 pub use sound.WpLaws.{FmC, fmOf, WpFn-mono}

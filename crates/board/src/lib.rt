@@ -30,22 +30,22 @@ pub extern "C" fn converter_reading(device: &mut Device, elec: i64, temp: i64, i
     if state::bad_reading(elec, temp, integrity) {
         return 9;
     }
-    let input = state::input_of(
-        device.setup.figures.filter,
-        device.setup.figures.temperature,
-        device.state.readings,
-        elec,
-        temp,
-    );
-    device.state = state::take(
+    let held = state::held_after(device.setup.figures.filter, device.state.readings, elec);
+    let input = compensation::input_at(device.setup.figures.temperature, held, temp);
+    let cell = compensation::cell_values(
         device.setup.figures.cell,
         device.setup.figures.linearity,
-        device.setup.figures.system,
-        device.state,
         input,
+    );
+    let values = compensation::compensate(
+        device.setup.figures.cell,
+        device.setup.figures.system,
+        cell,
+        held,
         temp,
         integrity,
     );
+    device.state = state::take(device.state, held, temp, values);
     0
 }
 
