@@ -1,88 +1,79 @@
 -- The table as the code has it, the first `count` of an array of rows: the loop that passes those below t, and the value where
 -- it stops. One file for arrays of any size. Assumes nothing.
-use mathlib.Core.Path.{_≡_, refl, sym, _∙_, ap, subst}
+use mathlib.Core.Path.{_≡_, refl, sym, _∙_, ap}
 use mathlib.Core.Bool.{true, false, cond}
-use mathlib.Core.List.{List, [], _∷_}
-use Prim.Native.Nat.{ℕ, zero, suc, _+_, _<_, _≤_}
+use mathlib.Core.List.{List, []}
+use Prim.Native.Nat.{ℕ, suc, _+_, _<_, _≤_}
 use native.Mathlib.Omega.{arith}
-use native.Mathlib.Nat.{add-zero}
 use native.Mathlib.Numerals.{add-one}
 use lib.IntN.{ℤ}
 use lib.ListN.{length, getD, take, drop, length-take}
-use lib.Seq.{drop-cons, drop-length, getD-take}
+use lib.Seq.{getD-take}
 use lib.Signed.{leZ}
+use mir.Syntax.{w64}
+use mir.Val.{toZ, ofZ}
+use Rattle.integers.proofs.Machine.{stored-is}
+use Rattle.integers.proofs.Order.{le-yes, le-no}
 use Rattle.arithmetic.specs.Table.{Point, column, place, line, between, interpolated, Computable}
 use Rattle.arithmetic.specs.Segment.{Segment}
-use Rattle.arithmetic.proofs.Segment.{below, each-at, Stands, below-stands, at-empty, at-first, at-last, at-between}
+use Rattle.arithmetic.proofs.Segment.{each-at, at-first, at-last, at-between}
 
--- ---- the loop: the first k points of the table of `count` rows lie below t
+-- ---- one row
 
-module _ (t : ℤ) (rows : List Point) (count : ℕ) where
-  pub record Passed (k : ℕ) : Type 0 where
-    pub inside : k ≤ length (take count rows)
-    pub rest : below t (take count rows) ≡ k + below t (drop k (take count rows))
+-- x and v are the place and the value of column j of the point at i
+pub record Row (j : ℕ) (table : List Point) (i : ℕ) (x v : ℤ) : Type 0 where
+  pub inside : i < length table
+  pub place-is : x ≡ place (getD table i [])
+  pub value-is : v ≡ column j (getD table i [])
 
-  pub passed-none : Passed 0
-  passed-none = record { inside = omega arith; rest = omega arith }
+-- the row at i as the code reads it, by way of an i64's bits, which hold every figure of a computable table
+abbrev pub Read : ℕ → List Point → ℕ → ℕ → Type 0
+Read j rows count i = Row j (take count rows) i (toZ w64 (ofZ w64 (column 0 (getD rows i [])))) (toZ w64 (ofZ w64 (column j (getD rows i []))))
 
-  -- at the end of the table
-  pub passed-all : (k : ℕ) → Passed k → length (take count rows) ≤ k → below t (take count rows) ≡ k
-  unfolding below
-  passed-all k h l =
-      let e : k ≡ length (take count rows) = omega (arith, h .inside) in
-      h .rest ∙ ap (λ (l : List Point). k + below t l) (ap (λ (m : ℕ). drop m (take count rows)) e ∙ drop-length (take count rows)) ∙ add-zero k
+pub read : {j : ℕ} (rows : List Point) (count : ℕ) → Computable j (take count rows) → (i : ℕ) → i < count → i < length rows → Read j rows count i
+read {j} rows count f i c l =
+    let e = sym (getD-take count rows i [] c) in
+    let n : i < length (take count rows) = simp length-take (omega arith) in
+    record {
+      inside = n;
+      place-is = stored-is (each-at _ (take count rows) i (f .places) n .abs) tt (ap place e);
+      value-is = stored-is (each-at _ (take count rows) i (f .values) n .abs) tt (ap (column j) e);
+    }
 
-  at-row : (k : ℕ) → k < count → k < length rows → below t (drop k (take count rows)) ≡ cond (leZ t (place (getD rows k []))) 0 (suc (below t (drop (suc k) (take count rows))))
-  unfolding below
-  at-row k h l =
-      ap (below t) (drop-cons (take count rows) k [] (simp length-take (omega arith)))
-      ∙ ap (λ (p : Point). cond (leZ t (place p)) 0 (suc (below t (drop (suc k) (take count rows))))) (getD-take count rows k [] h)
+-- ---- the loop
 
-  pub passed-stop : (k : ℕ) → Passed k → k < count → k < length rows → leZ t (place (getD rows k [])) ≡ true → below t (take count rows) ≡ k
-  passed-stop k h c l e = h .rest ∙ rw (at-row k c l, e) (add-zero k)
+-- the row before k holds x and v and lies below t: the value is that of the rows from it on
+pub data Passed (j : ℕ) (t : ℤ) (table : List Point) : ℕ → ℤ → ℤ → Type 0 where
+  passed : {i : ℕ} {x v : ℤ} → Row j table i x v → leZ t x ≡ false → interpolated j table t ≡ interpolated j (drop i table) t → Passed j t table (suc i) x v
 
-  pub passed-more : (k : ℕ) → Passed k → k < count → k < length rows → leZ t (place (getD rows k [])) ≡ false → Passed (k + 1)
-  passed-more k h c l e = record { inside = simp length-take (omega arith); rest = h .rest ∙ rw (at-row k c l, e, add-one) (omega arith) }
+module _ {j : ℕ} {table : List Point} {x v : ℤ} where
+  pub value-first : (t : ℤ) → Row j table 0 x v → leZ t x ≡ true → v ≡ interpolated j table t
+  value-first t r e = r .value-is ∙ sym (at-first j table t (rw (r .place-is) at e))
 
--- ---- the value: k of the rows lie below t
+  pub passed-first : {t : ℤ} → Row j table 0 x v → leZ t x ≡ false → Passed j t table 1 x v
+  passed-first r e = passed r e refl
 
--- column j of the row before k; before the first there is none, and 0 stands for it
-abbrev pub figureBefore : ℕ → List Point → ℕ → ℤ
-figureBefore j rows k = column j (getD ([] ∷ rows) k [])
+  pub value-last : {t : ℤ} {k : ℕ} → Passed j t table k x v → length table ≤ k → v ≡ interpolated j table t
+  value-last {t} (passed {i} r a e) l = r .value-is ∙ sym (e ∙ at-last j table t i (omega (arith, r .inside)))
 
-pub figure-before-more : (j : ℕ) (rows : List Point) (k : ℕ) → column j (getD rows k []) ≡ figureBefore j rows (k + 1)
-figure-before-more j rows k = rw add-one
+  -- the row at k, which holds x₂ and v₂, is the next
+  module _ {x₂ v₂ : ℤ} where
+    step : (t : ℤ) {i : ℕ} → Row j table i x v → leZ t x ≡ false → Row j table (suc i) x₂ v₂ → interpolated j (drop i table) t ≡ cond (leZ t x₂) (line x v x₂ v₂ t) (interpolated j (drop (suc i) table) t)
+    unfolding between
+    step t {i} r a s = rw (r .place-is, r .value-is, s .place-is, s .value-is) (at-between j table t i (s .inside) (rw (r .place-is) at a))
 
-module _ (j : ℕ) (t : ℤ) (rows : List Point) (count : ℕ) where
-  pub value-first : (k : ℕ) → below t (take count rows) ≡ k → 0 < count → k ≡ 0 → column j (getD rows k []) ≡ interpolated j (take count rows) t
-  value-first k b l e = rw e (sym (at-first j (take count rows) t (b ∙ e) ∙ ap (column j) (getD-take count rows 0 [] l)))
+    pub passed-more : {t : ℤ} {k : ℕ} → Passed j t table k x v → Row j table k x₂ v₂ → leZ t x₂ ≡ false → Passed j t table (k + 1) x₂ v₂
+    passed-more {t} (passed r a e) s b = rw add-one (passed s b (e ∙ step t r a s ∙ rw b))
 
-  -- the row before k is the table's last, or the table is empty
-  pub value-last : (k : ℕ) → below t (take count rows) ≡ k → length (take count rows) ≤ k → figureBefore j rows k ≡ interpolated j (take count rows) t
-  value-last zero b l = sym (at-empty j (take count rows) t (omega arith))
-  value-last (suc i) b l =
-      let n = below-stands t (take count rows) .inside in
-      sym (at-last j (take count rows) t i b (omega (arith, n)) ∙ ap (column j) (getD-take count rows i [] (omega (arith, n, length-take count rows))))
+    pub value-line : {t : ℤ} {k : ℕ} → Passed j t table k x v → Row j table k x₂ v₂ → leZ t x₂ ≡ true → line x v x₂ v₂ t ≡ interpolated j table t
+    value-line {t} (passed r a e) s b = sym (e ∙ step t r a s ∙ rw b)
 
-  -- the rows before k and at k are neighbours
-  pub value-line : (k : ℕ) → below t (take count rows) ≡ k → 0 < k → k < count → k < length rows
-      → line (figureBefore 0 rows k) (figureBefore j rows k) (place (getD rows k [])) (column j (getD rows k [])) t ≡ interpolated j (take count rows) t
-  unfolding between
-  value-line zero b l c r = absurd (omega arith)
-  value-line (suc i) b l c r =
-      sym (at-between j (take count rows) t i b (simp length-take (omega arith)) ∙ rw (getD-take count rows i [] (omega arith), getD-take count rows (suc i) [] c))
-
-  pub value-segment : (k : ℕ) → below t (take count rows) ≡ k → 0 < k → k < count → k < length rows → Computable j (take count rows)
-      → Segment (figureBefore 0 rows k) (figureBefore j rows k) (place (getD rows k [])) (column j (getD rows k [])) t
-  value-segment zero b l c r f = absurd (omega arith)
-  value-segment (suc i) b l c r f = rw (← getD-take count rows i [] (omega arith), ← getD-take count rows (suc i) [] c) (
-      let n : suc i < length (take count rows) = simp length-take (omega arith) in
-      let s = subst (Stands t (take count rows)) b (below-stands t (take count rows)) in
-      record {
-        t₁-in = each-at _ (take count rows) i (f .places) (omega arith);
-        v₁-in = each-at _ (take count rows) i (f .values) (omega arith);
-        t₂-in = each-at _ (take count rows) (suc i) (f .places) n;
-        v₂-in = each-at _ (take count rows) (suc i) (f .values) n;
-        after = s .passed i refl;
-        upto = s .stopped n;
-      })
+    pub value-segment : {t : ℤ} {k : ℕ} → Computable j table → Passed j t table k x v → Row j table k x₂ v₂ → leZ t x₂ ≡ true → Segment x v x₂ v₂ t
+    value-segment f (passed {i} r a e) s b = record {
+      t₁-in = rw (r .place-is) (each-at _ table i (f .places) (r .inside));
+      v₁-in = rw (r .value-is) (each-at _ table i (f .values) (r .inside));
+      t₂-in = rw (s .place-is) (each-at _ table (suc i) (f .places) (s .inside));
+      v₂-in = rw (s .value-is) (each-at _ table (suc i) (f .values) (s .inside));
+      after = le-no a;
+      upto = le-yes b;
+    }

@@ -1,123 +1,104 @@
--- `interpolate_two` meets its contract. The loop's invariant: the first k rows lie below t, and t1, v1, w1 are the figures of the
--- row before k. Assumes nothing.
-use mathlib.Core.Path.{_≡_, refl, _∙_}
-use mathlib.Core.List.{List, []}
-use Prim.Native.Nat.{ℕ, _-_, _<_, _≤_}
+-- `interpolate_two` meets its contract. The loop's invariant: the row before k lies below t, and t1, v1, w1 are its figures.
+-- Assumes nothing.
+use mathlib.Core.Path.{_≡_}
+use mathlib.Core.List.{List}
+use Prim.Native.Nat.{ℕ, _+_, _-_, _<_, _≤_}
 use native.Mathlib.Omega.{arith}
 use lib.IntN.{ℤ}
-use lib.ListN.{length, getD, take, length-take}
+use lib.ListN.{length, take, length-take}
 use mir.Syntax.{w64}
 use mir.Val.{toZ, ofZ}
 use mir.ValLaws.{toZ-ofZ}
 use borrow.Author.Needs.{needs}
-use borrow.Author.Tests.{ltb-true, ltb-false}
 use Rattle.integers.proofs.Machine.{held}
-use Rattle.arithmetic.specs.Table.{Point, column, interpolated}
+use Rattle.arithmetic.specs.Table.{Point, interpolated}
 use Rattle.arithmetic.specs.Two.{interpolatedTwo}
-use Rattle.arithmetic.proofs.Segment.{below}
-use Rattle.arithmetic.proofs.Rows.{Passed, passed-none, passed-all, passed-stop, passed-more, figureBefore, figure-before-more, value-first, value-last, value-line, value-segment}
+use Rattle.arithmetic.proofs.Rows.{Read, read, Passed, passed-first, passed-more, value-first, value-last, value-line, value-segment}
 use Rattle.arithmetic.proofs.interpolation.interpolate_two.Statement.{statement}
 use Rattle.arithmetic.proofs.interpolation.interpolate_two.Tie as tie
 
 abbrev Inv-loop : tie.InvT-loop
 Inv-loop count t rows t1₀ v1₀ w1₀ k₀ t1 v1 w1 k =
-    Passed (toZ w64 t) rows count k × (toZ w64 t1 ≡ figureBefore 0 rows k) × (toZ w64 v1 ≡ figureBefore 1 rows k) × (toZ w64 w1 ≡ figureBefore 2 rows k)
+    (k < count) × Passed 1 (toZ w64 t) (take count rows) k (toZ w64 t1) (toZ w64 v1) × Passed 2 (toZ w64 t) (take count rows) k (toZ w64 t1) (toZ w64 w1)
 
 abbrev μ-loop : tie.MeasureT-loop
 μ-loop count t rows t1₀ v1₀ w1₀ k₀ t1 v1 w1 k = 5 - k
 
-loop-holds : tie.Need-loop-holds Inv-loop μ-loop
-loop-holds c = (passed-none _ _ _, refl, refl, refl)
+module _ (s : tie.Start Inv-loop μ-loop) where
+  abbrev table : List Point
+  table = take (s .args .count) (s .args .t1)
 
-abbrev table : tie.Start Inv-loop μ-loop → List Point
-table s = take (s .args .count) (s .args .t1)
+  five : length (s .args .t1) ≡ 5
+  five = search needs
 
--- row k as it was read: its figures and t are what the bits hold
-module _ (c : tie.After-w2 Inv-loop μ-loop) where
-  abbrev at : tie.At-loop Inv-loop μ-loop
-  at = c .before .before .before .before .before
+  -- for both columns
+  row : (k : ℕ) → k < s .args .count → k < 5 → Read 1 (s .args .t1) (s .args .count) k × Read 2 (s .args .t1) (s .args .count) k
+  row k c l =
+      let n : k < length (s .args .t1) = omega (arith, five) in
+      (read (s .args .t1) (s .args .count) (s .pre .1 .0) k c n, read (s .args .t1) (s .args .count) (s .pre .1 .1) k c n)
 
-  abbrev read : ℕ → ℤ
-  read j = column j (getD (at .before .args .t1) (at .loop .k) [])
-
-  place-is : toZ w64 (ofZ w64 (read 0)) ≡ read 0
-  place-is = search needs
-
-  first-is : toZ w64 (ofZ w64 (read 1)) ≡ read 1
-  first-is = search needs
-
-  second-is : toZ w64 (ofZ w64 (read 2)) ≡ read 2
-  second-is = search needs
-
-  t-is : toZ w64 (ofZ w64 (at .before .args .t)) ≡ at .before .args .t
-  t-is = toZ-ofZ w64 (at .before .args .t) (at .before .fits .t)
-
-  inside : (at .loop .k < at .before .args .count) × (at .loop .k < length (at .before .args .t1))
-  inside = let five : length (at .before .args .t1) ≡ 5 = search needs in (omega (arith, ltb-true), omega arith)
-
-stop : (c : tie.Then2 Inv-loop μ-loop) → below (at (c .before) .before .args .t) (table (at (c .before) .before)) ≡ at (c .before) .loop .k
-stop c =
-    let w = c .before in
-    let a = at w .before .args in
-    passed-stop (a .t) (a .t1) (a .count) (at w .loop .k) (rw (t-is w) at (at w .loop .inv .0)) (inside w .0) (inside w .1) (rw (t-is w, place-is w) at (c .if2 .taken))
+  -- t is what its bits hold
+  both : {v w : ℤ} → v ≡ interpolated 1 table (toZ w64 (ofZ w64 (s .args .t))) → w ≡ interpolated 2 table (toZ w64 (ofZ w64 (s .args .t))) → record { first = v; second = w } ≡ interpolatedTwo table (s .args .t)
+  both p q = rw (p, q, toZ-ofZ w64 (s .args .t) (s .fits .t))
 
 returns : tie.Need-returns Inv-loop μ-loop
 returns c =
-    let w = c .before .before in
-    let a = at w .before .args in
-    let value : (j : ℕ) → read w j ≡ interpolated j (table (at w .before)) (a .t) =
-    λ j. value-first j (a .t) (a .t1) (a .count) (at w .loop .k) (stop (c .before)) (omega (arith, inside w)) (c .if3 .taken) in
-    rw (first-is w, second-is w, value 1, value 2)
+    let s = c .before .before .before .before in
+    let r = row s 0 (omega arith) (omega arith) in
+    both s (value-first _ (r .0) (c .if1 .taken)) (value-first _ (r .1) (c .if1 .taken))
+
+loop-holds : tie.Need-loop-holds Inv-loop μ-loop
+loop-holds c =
+    let r = row (c .before .before .before .before) 0 (omega arith) (omega arith) in
+    (omega arith, passed-first (r .0) (c .if1 .left), passed-first (r .1) (c .if1 .left))
+
+-- the row at k, which the turn reads
+module _ (c : tie.After-w2 Inv-loop μ-loop) where
+  abbrev at : tie.At-loop Inv-loop μ-loop
+  at = c .before .before .before .before
+
+  abbrev start : tie.Start Inv-loop μ-loop
+  start = at .before .before .before .before .before
+
+  row-k : Read 1 (start .args .t1) (start .args .count) (at .loop .k) × Read 2 (start .args .t1) (start .args .count) (at .loop .k)
+  row-k = row start (at .loop .k) (omega arith) (omega arith)
 
 line-at-requires : tie.Need-line-at-requires Inv-loop μ-loop
 line-at-requires c κs =
-    let w = c .before .before in
-    let a = at w .before .args in
-    let l = at w .loop in
-    rw (l .inv .1, l .inv .2, place-is w, first-is w, t-is w)
-    (value-segment 1 (a .t) (a .t1) (a .count) (l .k) (stop (c .before)) (omega arith) (inside w .0) (inside w .1) (at w .before .pre .0))
+    let w = c .before in
+    value-segment (start w .pre .1 .0) (at w .loop .inv .1) (row-k w .0) (c .if2 .taken)
 
 line-at-requires-2 : tie.Need-line-at-requires-2 Inv-loop μ-loop
 line-at-requires-2 c κs =
-    let w = c .before .before .before in
-    let a = at w .before .args in
-    let l = at w .loop in
-    rw (l .inv .1, l .inv .3, place-is w, second-is w, t-is w)
-    (value-segment 2 (a .t) (a .t1) (a .count) (l .k) (stop (c .before .before)) (omega arith) (inside w .0) (inside w .1) (at w .before .pre .1))
+    let w = c .before .before in
+    value-segment (start w .pre .1 .1) (at w .loop .inv .2) (row-k w .1) (c .before .if2 .taken)
 
 returns-2 : tie.Need-returns-2 Inv-loop μ-loop
 returns-2 c =
-    let w = c .before .before .before .before in
-    let a = at w .before .args in
-    let l = at w .loop in
-    let b = stop (c .before .before .before) in
-    let v = rw (l .inv .1, l .inv .2, place-is w, first-is w, t-is w, value-line 1 (a .t) (a .t1) (a .count) (l .k) b (omega arith) (inside w .0) (inside w .1)) at (c .before .line-at .ensures) in
-    let u = rw (l .inv .1, l .inv .3, place-is w, second-is w, t-is w, value-line 2 (a .t) (a .t1) (a .count) (l .k) b (omega arith) (inside w .0) (inside w .1)) at (c .line-at2 .ensures) in
-    rw (held (c .before .line-at .ok) v, held (c .line-at2 .ok) u)
+    let w = c .before .before .before in
+    let e = c .before .before .if2 .taken in
+    both (start w)
+    (held (c .before .line-at .ok) (rw (value-line (at w .loop .inv .1) (row-k w .0) e) at (c .before .line-at .ensures)))
+    (held (c .line-at2 .ok) (rw (value-line (at w .loop .inv .2) (row-k w .1) e) at (c .line-at2 .ensures)))
+
+returns-3 : tie.Need-returns-3 Inv-loop μ-loop
+returns-3 c =
+    let w = c .before .before in
+    let e = c .before .if2 .left in
+    let l : length (table (start w)) ≤ at w .loop .k + 1 = simp length-take (omega arith) in
+    both (start w) (value-last (passed-more (at w .loop .inv .1) (row-k w .0) e) l) (value-last (passed-more (at w .loop .inv .2) (row-k w .1) e) l)
 
 loop-again : tie.Need-loop-again Inv-loop μ-loop
 loop-again c =
-    let w = c .before in
-    let a = at w .before .args in
-    let k = at w .loop .k in
-    let passed = passed-more _ (a .t1) (a .count) k (at w .loop .inv .0) (inside w .0) (inside w .1) (rw (place-is w) at (c .if2 .left)) in
-    (passed, place-is w ∙ figure-before-more 0 (a .t1) k, first-is w ∙ figure-before-more 1 (a .t1) k, second-is w ∙ figure-before-more 2 (a .t1) k)
-
--- past the count or past the rows, the row before k is the table's last
-end : (c : tie.At-loop Inv-loop μ-loop) → length (table (c .before)) ≤ c .loop .k → record { first = toZ w64 (c .loop .v1); second = toZ w64 (c .loop .w1) } ≡ interpolatedTwo (table (c .before)) (c .before .args .t)
-end c h =
-    let a = c .before .args in
-    let l = c .loop in
-    let all = passed-all (a .t) (a .t1) (a .count) (l .k) (rw (toZ-ofZ w64 (a .t) (c .before .fits .t)) at (l .inv .0)) h in
-    rw (l .inv .2, l .inv .3, value-last 1 (a .t) (a .t1) (a .count) (l .k) all h, value-last 2 (a .t) (a .t1) (a .count) (l .k) all h)
-
-returns-3 : tie.Need-returns-3 Inv-loop μ-loop
-returns-3 c = end (c .before .before) (simp length-take (omega (arith, ltb-false)))
+    let w = c .before .before in
+    let e = c .before .if2 .left in
+    (omega arith, passed-more (at w .loop .inv .1) (row-k w .0) e, passed-more (at w .loop .inv .2) (row-k w .1) e)
 
 returns-4 : tie.Need-returns-4 Inv-loop μ-loop
 returns-4 c =
-    let five : length (c .before .before .args .t1) ≡ 5 = search needs in
-    end (c .before) (simp length-take (omega arith))
+    let s = c .before .before .before .before .before .before in
+    let l : length (table s) ≤ c .before .loop .k = simp length-take (omega (arith, five s)) in
+    both s (value-last (c .before .loop .inv .1) l) (value-last (c .before .loop .inv .2) l)
 
 pub interpolate-two-spec : {M : Type 1} → statement M
 interpolate-two-spec =
@@ -125,6 +106,13 @@ interpolate-two-spec =
     (tie.spec
     Inv-loop
     μ-loop
+    (λ c. search needs)
+    (λ c. search needs)
+    (λ c. search needs)
+    (λ c. search needs)
+    (λ c. search needs)
+    (λ c. search needs)
+    returns
     loop-holds
     (λ c. search needs)
     (λ c. search needs)
@@ -135,12 +123,11 @@ interpolate-two-spec =
     (λ c. search needs)
     (λ c. search needs)
     (λ c. search needs)
-    returns
     line-at-requires
     line-at-requires-2
     returns-2
     (λ c. search needs)
+    returns-3
     (λ c. search needs)
     loop-again
-    returns-3
     returns-4)

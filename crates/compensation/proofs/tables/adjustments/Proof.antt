@@ -1,4 +1,4 @@
--- `adjustments` meets its contract: an acceptable table is computable. Assumes nothing.
+-- `adjustments` meets its contract: an acceptable table has two points at least and is computable. Assumes nothing.
 use mir.ValLaws.{toZ-ofZ}
 use Rattle.figures.specs.Acceptable.{temperatures}
 use Rattle.compensation.proofs.Computable.{cto-computable, ctg-computable}
@@ -16,7 +16,7 @@ interpolate-two-requires : tie.Need-interpolate-two-requires
 unfolding temperatures
 interpolate-two-requires c κs =
     let s = c .before .before .before in
-    rw (c .temperature-rows .ensures) (cto-computable (s .args .table) (s .pre), ctg-computable (s .args .table) (s .pre))
+    rw (c .temperature-rows .ensures) (s .pre .least, (cto-computable (s .args .table) (s .pre), ctg-computable (s .args .table) (s .pre)))
 
 returns : tie.Need-returns
 unfolding temperatures

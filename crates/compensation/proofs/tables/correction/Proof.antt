@@ -1,4 +1,4 @@
--- `correction` meets its contract: an acceptable table is computable. Assumes nothing.
+-- `correction` meets its contract: an acceptable table has two points at least and is computable. Assumes nothing.
 use mathlib.Core.Path.{_∙_}
 use mir.Syntax.{w64}
 use mir.ValLaws.{toZ-ofZ}
@@ -18,7 +18,7 @@ interpolate-one-requires : tie.Need-interpolate-one-requires
 unfolding linearities
 interpolate-one-requires c κs =
     let s = c .before .before .before in
-    rw (c .linearity-rows .ensures) (clk-computable (s .args .table) (s .pre))
+    rw (c .linearity-rows .ensures) (s .pre .least, clk-computable (s .args .table) (s .pre))
 
 returns : tie.Need-returns
 unfolding linearities
