@@ -6,20 +6,21 @@ ghost use Rattle.modbus.specs.Frame.{wordAt, toUs, checked, forUs, acces
 use crate::register::Access;
 
 // A good frame, or the number that it is turned down with. A write carries the float that it sends,
-// which its register takes.
+// which its register takes. A register's number has 32 bits, so that a frame fills more than one word:
+// one that fits is packed and unpacked by the compiler, some 20 instructions for each call.
 pub enum Frame {
     Refused(u8),
-    Read(u16),
-    Write(u16, f32),
-    Act(u16),
+    Read(u32),
+    Write(u32, f32),
+    Act(u32),
 }
 
 // Two bytes, the high one first.
-fn word(bytes: &[u8], at: usize) -> u16
+fn word(bytes: &[u8], at: usize) -> u32
     requires { ⌜ at + 1 < length (now bytes) ⌝ }
     ensures { λ r. ⌜ r ≡ wordAt (now (bytes .entry)) at ⌝ }
 {
-    (bytes[at] as u16) * 256 + (bytes[at + 1] as u16)
+    (bytes[at] as u32) * 256 + (bytes[at + 1] as u32)
 }
 
 // To this station, or to all and no read?
@@ -95,7 +96,7 @@ fn read_asked(frame: &[u8]) -> Frame
 }
 
 // A write of x to a register.
-fn write_of(access: Access, register: u16, x: f32) -> Frame
+fn write_of(access: Access, register: u32, x: f32) -> Frame
     ensures { λ r. ⌜ r ≡ writeOf access register x ⌝ }
 {
     match access {

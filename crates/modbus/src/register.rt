@@ -12,7 +12,7 @@ pub enum Access {
 }
 
 // STAT; SOUT, SYS, TEMP, SRAW, CELL; CRAW, ELEC; SYSN, PEAK, TROF; FLAG; SZ; RST, SNAP, peak reset.
-pub fn access_to(register: u16) -> Access
+pub fn access_to(register: u32) -> Access
     ensures { λ r. ⌜ r ≡ accessOf register ⌝ }
 {
     match register {

@@ -15,7 +15,7 @@ pub enum Answer {
 }
 
 // TEMP, SRAW, CELL, CRAW, ELEC, PEAK, TROF, and SYS, which is SOUT too.
-fn steps_at(r: Readings, register: u16) -> i64
+fn steps_at(r: Readings, register: u32) -> i64
     ensures { λ z. ⌜ z ≡ stepsAt r register ⌝ }
 {
     let v = r.values;
@@ -31,7 +31,7 @@ fn steps_at(r: Readings, register: u16) -> i64
     }
 }
 
-fn reading_float(r: Readings, register: u16) -> f32
+fn reading_float(r: Readings, register: u32) -> f32
     requires { ⌜ ReadingsWithin r ⌝ }
     ensures { λ x. ⌜ x ≡ readingFloat r register ⌝ }
 {
@@ -42,7 +42,7 @@ fn reading_float(r: Readings, register: u16) -> f32
     float_of_steps(steps_at(r, register))
 }
 
-fn reading_at(r: Readings, register: u16) -> Answer
+fn reading_at(r: Readings, register: u32) -> Answer
     requires { ⌜ ReadingsWithin r ⌝ }
     ensures { λ a. ⌜ a ≡ readingAt r register ⌝ }
 {
@@ -53,7 +53,7 @@ fn reading_at(r: Readings, register: u16) -> Answer
 }
 
 // FLAG, SZ, SYSN, the three actions; all others are of a reading.
-fn register_at(state: State, sz: i64, register: u16) -> Answer
+fn register_at(state: State, sz: i64, register: u32) -> Answer
     requires { ⌜ StateWithin state sz ⌝ }
     ensures { λ a. ⌜ a ≡ registerAt state sz register ⌝ }
 {

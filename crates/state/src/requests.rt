@@ -71,7 +71,7 @@ fn reset_peaks(state: State) -> State
 }
 
 // RST (100), SNAP (103) or peak reset.
-fn act(state: State, register: u16) -> State
+fn act(state: State, register: u32) -> State
     ensures { λ n. ⌜ n ≡ acted state register ⌝ }
 {
     if register == 100 {
@@ -84,7 +84,7 @@ fn act(state: State, register: u16) -> State
 }
 
 // FLAG (14) keeps the bits that are written; SZ is none of the state.
-fn write(state: State, register: u16, x: f32) -> State
+fn write(state: State, register: u32, x: f32) -> State
     ensures { λ n. ⌜ n ≡ written state register x ⌝ }
 {
     if register != 14 {

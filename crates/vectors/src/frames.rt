@@ -5,17 +5,17 @@ use modbus::frame::Frame;
 
 // A frame's answer as one number: 1000 + the register of a read, 2000 + that of a write, 3000 + that
 // of an action, or the number that it is turned down with.
-fn number_of(asked: Frame) -> u32 {
+fn number_of(asked: Frame) -> u64 {
     match asked {
-        Frame::Read(register) => 1000 + (register as u32),
-        Frame::Write(register, _) => 2000 + (register as u32),
-        Frame::Act(register) => 3000 + (register as u32),
-        Frame::Refused(number) => number as u32,
+        Frame::Read(register) => 1000 + (register as u64),
+        Frame::Write(register, _) => 2000 + (register as u64),
+        Frame::Act(register) => 3000 + (register as u64),
+        Frame::Refused(number) => number as u64,
     }
 }
 
 // One more where the frame asks what is expected, given the room for a reply and the station.
-fn asks(so_far: u64, frame: &[u8], room: usize, station: u8, expected: u32) -> u64 {
+fn asks(so_far: u64, frame: &[u8], room: usize, station: u8, expected: u64) -> u64 {
     let asked = modbus::frame::judge(frame, room, station);
     counted(so_far, number_of(asked) == expected)
 }
