@@ -2,7 +2,8 @@
 ghost use mathlib.Core.Path.{_≡_};
 ghost use lib.ListN.{length};
 ghost use Rattle.modbus.specs.Reply.{Replied};
-ghost use Rattle.state.specs.Register.{answered, numberOf};
+ghost use Rattle.state.specs.Register.{answered, numberOf, refusalOf};
+ghost use Rattle.state.specs.declared.registers.Answer.the-variants.{Done, Refused};
 ghost use Rattle.converter.specs.Call.{replyWith};
 ghost use Rattle.converter.specs.Reached.{Parts, Answering};
 use modbus::frame::Frame;
@@ -45,5 +46,22 @@ pub fn answer(state: State, sz: i64, request: Frame, frame: &[u8], reply: &mut [
     let answer = state::answer_to(state, sz, request);
     let length = reply_with(frame, reply, answer);
     let number = number_in(answer);
+    Answered { number, length }
+}
+
+// A write or an action that was obeyed is acknowledged.
+pub fn acknowledge(frame: &[u8], reply: &mut [u8]) -> Answered
+    ensures { λ r. ⌜ Answering Done (now (frame .entry)) (now (reply .entry)) (now (reply .exit)) r ⌝ }
+{
+    let length = modbus::reply::acknowledgement(frame, reply);
+    Answered { number: 0, length }
+}
+
+// A frame that is no read and was not obeyed is refused.
+pub fn refuse(request: Frame, frame: &[u8], reply: &mut [u8]) -> Answered
+    ensures { λ r. ⌜ Answering (Refused (refusalOf request)) (now (frame .entry)) (now (reply .entry)) (now (reply .exit)) r ⌝ }
+{
+    let number = state::refusal(request);
+    let length = modbus::reply::exception(frame, reply, number);
     Answered { number, length }
 }

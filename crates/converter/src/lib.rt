@@ -8,7 +8,9 @@ mod bus;
 mod making;
 
 pub use bus::Answered;
+pub use bus::acknowledge;
 pub use bus::answer;
+pub use bus::refuse;
 use state::Reported;
 use state::Setup;
 use state::State;

@@ -1,5 +1,5 @@
 -- What a frame is answered with, and the registers as they read (01, "The bus").
-use mathlib.Core.Bool.{cond}
+use mathlib.Core.Bool.{Bool, true, false, cond, _||_}
 use Prim.Native.Nat.{ℕ}
 use lib.Dec.{eqb, leb}
 use lib.IntN.{ℤ}
@@ -55,6 +55,27 @@ answered s sz (frame.Refused n) = Refused n
 answered s sz (Read n) = registerAt s sz n
 answered s sz (Write r x) = Done
 answered s sz (Act r) = cond (eqb r 100) Done (onReading s)
+
+-- ---- the same by three tests: a read, a frame that is obeyed, and any other (`answer-obeyed`, `answer-refused`, `proofs/Answers.antt`)
+
+unfoldable pub isRead : Frame → Bool
+isRead (frame.Refused n) = false
+isRead (Read r) = true
+isRead (Write r x) = false
+isRead (Act r) = false
+
+unfoldable pub isObeyed : Readings → Frame → Bool
+isObeyed r (frame.Refused n) = false
+isObeyed r (Read n) = false
+isObeyed r (Write n x) = true
+isObeyed r (Act n) = eqb n 100 || r .any
+
+-- the number of a frame that is neither: its own, or 10 of an action without a reading
+unfoldable pub refusalOf : Frame → ℕ
+refusalOf (frame.Refused n) = n
+refusalOf (Read r) = 10
+refusalOf (Write r x) = 10
+refusalOf (Act r) = 10
 
 -- An answer's number: "An accepted call gives 0".
 abbrev pub numberOf : Answer → ℕ

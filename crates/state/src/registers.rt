@@ -1,6 +1,6 @@
 // What a frame is answered with, and the registers as they read (01, "The bus").
 ghost use mathlib.Core.Path.{_≡_};
-ghost use Rattle.state.specs.Register.{stepsAt, readingFloat, readingAt, registerAt, onReading, answered, ReadingsWithin, StateWithin};
+ghost use Rattle.state.specs.Register.{stepsAt, readingFloat, readingAt, registerAt, onReading, answered, isRead, isObeyed, refusalOf, ReadingsWithin, StateWithin};
 use crate::Readings;
 use crate::State;
 use binary32::sent::float_of_steps;
@@ -101,5 +101,41 @@ pub fn answer_to(state: State, sz: i64, frame: Frame) -> Answer
             on_reading(state)
         }
         Frame::Write(_, _) => Answer::Done,
+    }
+}
+
+// A read: it is answered with a value, or refused.
+pub fn is_read(frame: Frame) -> bool
+    ensures { λ r. ⌜ r ≡ isRead frame ⌝ }
+{
+    match frame {
+        Frame::Read(_) => true,
+        _ => false,
+    }
+}
+
+// A write or an action that is obeyed: RST (100) at any time, SNAP and peak reset after a reading.
+pub fn is_obeyed(readings: Readings, frame: Frame) -> bool
+    ensures { λ r. ⌜ r ≡ isObeyed readings frame ⌝ }
+{
+    match frame {
+        Frame::Write(_, _) => true,
+        Frame::Act(register) => {
+            if register == 100 {
+                return true;
+            }
+            readings.any
+        }
+        _ => false,
+    }
+}
+
+// The number of a frame that is neither: its own, or 10.
+pub fn refusal(frame: Frame) -> u8
+    ensures { λ r. ⌜ r ≡ refusalOf frame ⌝ }
+{
+    match frame {
+        Frame::Refused(number) => number,
+        _ => 10,
     }
 }

@@ -1,0 +1,32 @@
+-- `state::registers::is_read` meets its contract. Assumes nothing.
+use mathlib.Core.Path.{_≡_, refl, sym, ap}
+use mathlib.Core.Bool.{false}
+use mathlib.Core.List.{[], _∷_}
+use types.Run.{OneOf, miss}
+use denote.Enum.Declared.{tagOf}
+use Rattle.modbus.specs.declared.frame.Frame.{Frame}
+use Rattle.modbus.specs.declared.frame.Frame.the-variants.{Refused, Read, Write, Act}
+use Rattle.modbus.proofs.frame.Frame as F
+use Rattle.state.specs.Register.{isRead}
+use Rattle.state.proofs.registers.is_read.Statement.{statement}
+use Rattle.state.proofs.registers.is_read.Tie as tie
+
+others : (f : Frame) → OneOf (0 ∷ 2 ∷ 3 ∷ []) (tagOf F.the-type f) → false ≡ isRead f
+unfolding isRead
+others (Refused n) h = refl
+others (Read r) h = absurd (miss (0 ∷ 2 ∷ 3 ∷ []) 1 tt h)
+others (Write r x) h = refl
+others (Act r) h = refl
+
+enum-told : tie.Need-enum-told
+enum-told c = c .match .keys1
+
+returns : tie.Need-returns
+unfolding isRead
+returns c = sym (ap isRead (c .enum-told .given .1))
+
+returns-2 : tie.Need-returns-2
+returns-2 c = others (c .before .args .frame) (c .match .keys2)
+
+pub is-read-spec : {M : Type 1} → statement M
+is-read-spec = tie.close (tie.spec enum-told returns returns-2)
