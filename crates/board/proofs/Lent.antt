@@ -10,7 +10,9 @@ use Rattle.state.proofs.State.Laws as S′
 use Rattle.converter.specs.Reached.{Reached}
 use Rattle.converter.specs.declared.Device.{Device}
 use Rattle.converter.proofs.Device as D
+use Rattle.converter.proofs.acknowledge as acknowledge
 use Rattle.converter.proofs.answer as answer
+use Rattle.converter.proofs.refuse as refuse
 use Rattle.board.proofs.Walk.{refl, ℕ, _<_, _^_, [], _∷_, List, length, URA, named, w8, w64, Val, vint, vptr, SProp, ent, GName, Lft, Share, ftrue, flft, fobs, fbor, Memory, Routine, Heap, Atoms, Fun, Given, Item, ‵, _⊛_, ⋆, _$_, _∵_, !, qed, move, drop, split, join, fjoin, fjoin3, feqI, frame, done, Body, Is, mem, uint-makes, sint-makes, u8, usize, i64, RefT, sliceVal, MutSlice, ShrSlice, owned, nothing, Bound, tripleOf, says}
 use Rattle.board.proofs.Kept.{mach-state, IsDevice, number, state-is, sz-is}
 use Rattle.board.proofs.obey as obey
@@ -37,16 +39,36 @@ module _ {M : Type 1} (𝓤 : URA M) (H : Heap 𝓤) (A : Atoms 𝓤) (κ₁ κ�
   to-answer =
       ((κ₁, (κ₂, tt)), (q₁, (q₂, tt)), tt, (h .state, (h .setup .figures .system .sz, (a, (xf, (xr, tt))))), (mach-state (h .state) ∷ [], (number (h .setup .figures .system .sz) ∷ [], (va ∷ [], (slice xf ∷ [], (slice xr ∷ [], tt))))))
 
-module _ {M : Type 1} (𝓤 : URA M) (H : Heap 𝓤) (A : Atoms 𝓤) (W : Given 𝓤 H A) (mem-at : Memory → SProp 𝓤) (run : Routine → Fun 𝓤) (κ₁ κ₂ : Lft) (q₁ q₂ : Share) (xf xr : RefT (List ℕ)) (h : Device) (a : Frame) (va : Val) where
-  abbrev lent : List (Item 𝓤)
-  lent = ((‵ (flft κ₁ q₁) ⊛ ‵ ftrue) ⊛ (‵ (flft κ₂ q₂) ⊛ ‵ ftrue)) ∷ bytes 𝓤 κ₁ xf ∷ ‵ (MutSlice (named 1) κ₂ u8 .own xr (slice xr ∷ [])) ∷ []
+-- the frame and the reply, lent for their lifetimes
+abbrev lent : {M : Type 1} (𝓤 : URA M) (H : Heap 𝓤) (A : Atoms 𝓤) (W : Given 𝓤 H A) (κ₁ κ₂ : Lft) (q₁ q₂ : Share) (xf xr : RefT (List ℕ)) → List (Item 𝓤)
+lent 𝓤 H A W κ₁ κ₂ q₁ q₂ xf xr = ((‵ (flft κ₁ q₁) ⊛ ‵ ftrue) ⊛ (‵ (flft κ₂ q₂) ⊛ ‵ ftrue)) ∷ bytes 𝓤 κ₁ xf ∷ ‵ (MutSlice (named 1) κ₂ u8 .own xr (slice xr ∷ [])) ∷ []
 
-  pub answer-asks : Reached h → IsDevice h → Is R.the-row a (va ∷ []) → ent 𝓤 (⋆ 𝓤 H A lent) (tripleOf 𝓤 H A answer.signature (answer.spec 𝓤 H A mem-at run) .pre (to-answer 𝓤 H A κ₁ κ₂ q₁ q₂ xf xr h a va, tt))
+module _ {M : Type 1} (𝓤 : URA M) (H : Heap 𝓤) (A : Atoms 𝓤) (W : Given 𝓤 H A) (mem-at : Memory → SProp 𝓤) (run : Routine → Fun 𝓤) (κ₁ κ₂ : Lft) (q₁ q₂ : Share) (xf xr : RefT (List ℕ)) (h : Device) (a : Frame) (va : Val) where
+  pub answer-asks : Reached h → IsDevice h → Is R.the-row a (va ∷ []) → ent 𝓤 (⋆ 𝓤 H A (lent 𝓤 H A W κ₁ κ₂ q₁ q₂ xf xr)) (tripleOf 𝓤 H A answer.signature (answer.spec 𝓤 H A mem-at run) .pre (to-answer 𝓤 H A κ₁ κ₂ q₁ q₂ xf xr h a va, tt))
   answer-asks reached was a-is =
-      qed W lent ∵ split ! $ split ! $ move ! (1 ∷ []) $ drop ! $ join ! $
+      qed W (lent 𝓤 H A W κ₁ κ₂ q₁ q₂ xf xr) ∵ split ! $ split ! $ move ! (1 ∷ []) $ drop ! $ join ! $
       says ! (record { device = h; reached = reached; state-is = refl; sz-is = refl }) $ frame ! $ nothing ! $ move ! (2 ∷ 0 ∷ []) $ fjoin ! $ move ! (1 ∷ 0 ∷ []) $ fjoin ! $
       owned ! R.the-row (Is R.the-row) (EL.makes R.the-type R′.the-plain 𝓤 H A) a (va ∷ []) a-is $ fjoin ! $ owned ! i64 (Is i64) (sint-makes 𝓤 H A W w64) (h .setup .figures .system .sz) _ (sz-is h was) $ fjoin ! $
       owned ! S.the-row (Is S.the-row) (LL.makes S.the-type S′.the-plain 𝓤 H A) (h .state) _ (state-is h was) $ fjoin ! $ done !
+
+module _ {M : Type 1} (𝓤 : URA M) (H : Heap 𝓤) (A : Atoms 𝓤) (κ₁ κ₂ : Lft) (q₁ q₂ : Share) (xf xr : RefT (List ℕ)) where
+  abbrev pub to-acknowledge : Bound 𝓤 H A acknowledge.signature
+  to-acknowledge = ((κ₁, (κ₂, tt)), (q₁, (q₂, tt)), tt, (xf, (xr, tt)), (slice xf ∷ [], (slice xr ∷ [], tt)))
+
+  abbrev pub to-refuse : Frame → Val → Bound 𝓤 H A refuse.signature
+  to-refuse a va = ((κ₁, (κ₂, tt)), (q₁, (q₂, tt)), tt, (a, (xf, (xr, tt))), (va ∷ [], (slice xf ∷ [], (slice xr ∷ [], tt))))
+
+module _ {M : Type 1} (𝓤 : URA M) (H : Heap 𝓤) (A : Atoms 𝓤) (W : Given 𝓤 H A) (mem-at : Memory → SProp 𝓤) (run : Routine → Fun 𝓤) (κ₁ κ₂ : Lft) (q₁ q₂ : Share) (xf xr : RefT (List ℕ)) where
+  pub acknowledge-asks : ent 𝓤 (⋆ 𝓤 H A (lent 𝓤 H A W κ₁ κ₂ q₁ q₂ xf xr)) (tripleOf 𝓤 H A acknowledge.signature (acknowledge.spec 𝓤 H A mem-at run) .pre (to-acknowledge 𝓤 H A κ₁ κ₂ q₁ q₂ xf xr, tt))
+  acknowledge-asks =
+      qed W (lent 𝓤 H A W κ₁ κ₂ q₁ q₂ xf xr) ∵ split ! $ split ! $ move ! (1 ∷ []) $ drop ! $ join ! $
+      nothing ! $ move ! (3 ∷ 0 ∷ []) $ fjoin ! $ move ! (2 ∷ 0 ∷ []) $ fjoin ! $ move ! (1 ∷ 0 ∷ []) $ join ! $ frame ! $ done !
+
+  pub refuse-asks : (a : Frame) (va : Val) → Is R.the-row a (va ∷ []) → ent 𝓤 (⋆ 𝓤 H A (lent 𝓤 H A W κ₁ κ₂ q₁ q₂ xf xr)) (tripleOf 𝓤 H A refuse.signature (refuse.spec 𝓤 H A mem-at run) .pre (to-refuse 𝓤 H A κ₁ κ₂ q₁ q₂ xf xr a va, tt))
+  refuse-asks a va a-is =
+      qed W (lent 𝓤 H A W κ₁ κ₂ q₁ q₂ xf xr) ∵ split ! $ split ! $ move ! (1 ∷ []) $ drop ! $ join ! $
+      nothing ! $ move ! (3 ∷ 0 ∷ []) $ fjoin ! $ move ! (2 ∷ 0 ∷ []) $ fjoin ! $
+      owned ! R.the-row (Is R.the-row) (EL.makes R.the-type R′.the-plain 𝓤 H A) a (va ∷ []) a-is $ fjoin ! $ move ! (1 ∷ 0 ∷ []) $ join ! $ frame ! $ done !
 
 module _ {M : Type 1} (𝓤 : URA M) (H : Heap 𝓤) (A : Atoms 𝓤) (κ : Lft) (q : Share) (b o : ℕ) (γ : GName) (h : Device) (a : Frame) (va : Val) where
   abbrev pub to-obey : Bound 𝓤 H A obey.signature

@@ -14,7 +14,7 @@ pub use base.Logic.{SProp, ent, id⊢, emp, via, fst∗, sep}
 pub use base.Fml.{GName, Lft, Share, ftrue, fat, flft, fobs, fbor, fres, fshr-bor}
 pub use prog.Memory.{Memory}
 pub use prog.Routine.{Routine}
-pub use prog.Wp.{Heap, Calls, Loops, WpFn, Tables}
+pub use prog.Wp.{Heap, Env, Calls, Loops, WpFn, Tables}
 pub use ghost.Atoms.{Atoms}
 pub use contract.Monad.{Fun, factI}
 pub use contract.Running.{givenOf, tables}

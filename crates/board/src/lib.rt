@@ -56,15 +56,20 @@ pub extern "C" fn converter_frame(device: &mut Device, frame: &[u8], reply: &mut
     ensures { λ r. ⌜ Serving (now (device .entry)) (now (frame .entry)) (now (reply .entry)) (now (reply .exit)) (record { number = r .number; length = r .length; device = now (device .exit) }) ⌝ }
 {
     let asked = modbus::frame::judge(frame, reply.len(), device.setup.station);
-    let answered = converter::answer(
-        device.state,
-        device.setup.figures.system.sz,
-        asked,
-        frame,
-        reply,
-    );
-    obey(device, asked);
-    answered
+    if state::is_read(asked) {
+        return converter::answer(
+            device.state,
+            device.setup.figures.system.sz,
+            asked,
+            frame,
+            reply,
+        );
+    }
+    if state::is_obeyed(device.state.readings, asked) {
+        obey(device, asked);
+        return converter::acknowledge(frame, reply);
+    }
+    converter::refuse(asked, frame, reply)
 }
 
 // A judged frame obeyed: what it can change is stored, and nothing else.

@@ -1,8 +1,9 @@
 -- What an entry gives keeps its contract, from what the functions that it calls give. Assumes nothing.
 use mathlib.Core.Path.{_≡_, refl, sym, ap, _∙_, subst}
-use mathlib.Core.Bool.{true, false}
+use mathlib.Core.Bool.{Bool, true, false, cond, _||_, true≢false, false≢true}
 use mathlib.Core.List.{List}
 use Prim.Native.Nat.{ℕ}
+use lib.Dec.{eqb}
 use lib.IntN.{ℤ}
 use lib.ListN.{length}
 use Rattle.integers.specs.Within.{_within_}
@@ -16,13 +17,15 @@ use Rattle.compensation.specs.declared.steps.Values.{Values}
 use Rattle.compensation.proofs.Magnitudes.{cell-input, compensate-input}
 use Rattle.modbus.specs.Frame.{judged}
 use Rattle.modbus.specs.declared.frame.Frame.{Frame}
+use Rattle.modbus.specs.declared.frame.Frame.the-variants as asks
+use Rattle.modbus.specs.declared.frame.Frame.the-variants.{Read, Write, Act}
 use Rattle.state.specs.Reading.{badReading, heldAfter, taken, takenWith}
-use Rattle.state.specs.Request.{setupBy, stateBy}
-use Rattle.state.specs.Register.{answered, numberOf}
+use Rattle.state.specs.Request.{zeroBy, setupBy, fresh, snapped, peaksReset, acted, stateBy}
+use Rattle.state.specs.Register.{answered, isRead, isObeyed, numberOf}
 use Rattle.state.specs.declared.Setup.{Setup}
 use Rattle.state.specs.declared.State.{State}
 use Rattle.converter.specs.Call as call
-use Rattle.converter.specs.Call.{step, number, answerTo}
+use Rattle.converter.specs.Call.{obeyed, step, number, answerTo}
 use Rattle.converter.specs.Reached.{Reached, Answering, Reading, Serving}
 use Rattle.converter.specs.declared.Device.{Device}
 use Rattle.converter.specs.declared.Outcome.{Outcome}
@@ -64,6 +67,29 @@ module _ {d : Device} (h : Reached d) (elec temp : ℤ) (integrity : ℕ) where
         joins v-is s-is = gives (rw (good, s-is, v-is, k-is, i-is, held-is) refl)
 
 -- ---- a frame
+
+-- an action whose two tests fail: it is not RST, and there is no reading
+not-acted : (s : State) (rst snap : Bool) → rst || s .readings .any ≡ false → cond rst fresh (cond snap (snapped s) (peaksReset s)) ≡ s
+unfolding snapped peaksReset
+not-acted s true snap e = absurd (true≢false e)
+not-acted s false true e = rw e
+not-acted s false false e = rw e
+
+-- a frame that is not obeyed leaves the device
+pub unobeyed : (d : Device) (f : Frame) → isObeyed (d .state .readings) f ≡ false → obeyed d f ≡ d
+unfolding isObeyed zeroBy stateBy acted
+unobeyed d (asks.Refused n) e = refl
+unobeyed d (Read n) e = refl
+unobeyed d (Write r x) e = absurd (true≢false e)
+unobeyed d (Act r) e = ap (λ (s : State). record { setup = d .setup; state = s }) (not-acted (d .state) (eqb r 100) (eqb r 103) e)
+
+-- and so does a read
+pub read-unobeyed : (d : Device) (f : Frame) → isRead f ≡ true → obeyed d f ≡ d
+unfolding isRead zeroBy stateBy
+read-unobeyed d (asks.Refused n) e = absurd (false≢true e)
+read-unobeyed d (Read n) e = refl
+read-unobeyed d (Write r x) e = absurd (false≢true e)
+read-unobeyed d (Act r) e = absurd (false≢true e)
 
 pub serves : {d : Device} → Reached d → (bytes before after : List ℕ) {f : Frame} {n m : ℕ} {s : Setup} {t : State}
     → f ≡ judged bytes (length before) (d .setup .station) → Answering (answered (d .state) (d .setup .figures .system .sz) f) bytes before after (record { number = n; length = m })
