@@ -30,12 +30,12 @@ not-zero-bits (negsuc n) f = refl
 
 -- ---- FFLV is not negative: it is compared by sizes
 
-pub beyond : (level change : ℤ) → pos 0 ≤ℤ level → natAbs level < natAbs change → ltZ level (pos (natAbs change)) ≡ true
-beyond level change l h = yes-lt (lt! ⟨ level ⟩ (nat (natAbs change)) (omega (ints, abs-parts level)))
+pub more-than-level : (level change : ℤ) → pos 0 ≤ℤ level → natAbs level < natAbs change → ltZ level (pos (natAbs change)) ≡ true
+more-than-level level change l h = yes-lt (lt! ⟨ level ⟩ (nat (natAbs change)) (omega (ints, abs-parts level)))
 
-pub not-beyond : (level change : ℤ) → pos 0 ≤ℤ level → natAbs change ≤ natAbs level → ltZ level (pos (natAbs change)) ≡ false
-not-beyond (pos n) change l h = no-lt (le! (nat (natAbs change)) (nat n) (omega arith))
-not-beyond (negsuc n) change l h = absurd (l .le)
+pub within-level : (level change : ℤ) → pos 0 ≤ℤ level → natAbs change ≤ natAbs level → ltZ level (pos (natAbs change)) ≡ false
+within-level (pos n) change l h = no-lt (le! (nat (natAbs change)) (nat n) (omega arith))
+within-level (negsuc n) change l h = absurd (l .le)
 
 -- ---- which value is held
 

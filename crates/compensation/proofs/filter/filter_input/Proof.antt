@@ -17,7 +17,7 @@ use Rattle.arithmetic.specs.Round.{roundDiv}
 use Rattle.figures.specs.Limits.{fflvMost, ffstMost}
 use Rattle.compensation.specs.Filter.{elecMost, filtered}
 use Rattle.compensation.proofs.FilterHull.{filtered-within, on-pos}
-use Rattle.compensation.proofs.FilterCases.{zero-bits, not-zero-bits, beyond, not-beyond, at-first, no-steps, too-far, one-step}
+use Rattle.compensation.proofs.FilterCases.{zero-bits, not-zero-bits, more-than-level, within-level, at-first, no-steps, too-far, one-step}
 use Rattle.compensation.proofs.filter.filter_input.Statement.{statement}
 use Rattle.compensation.proofs.filter.filter_input.Tie as tie
 
@@ -66,7 +66,7 @@ change-is c = let s = c .before .before .before .before .before .before in simp 
 returns-3 : tie.Need-returns-3
 returns-3 c =
     let s = c .before .before .before .before .before .before .before in
-    let far = beyond (s .args .f .fflv) (s .args .input -ℤ s .args .held) (s .pre .acceptable .fflv-least) (rw (level-is s, change-is (c .before)) at (c .if3 .taken)) in
+    let far = more-than-level (s .args .f .fflv) (s .args .input -ℤ s .args .held) (s .pre .acceptable .fflv-least) (rw (level-is s, change-is (c .before)) at (c .if3 .taken)) in
     toZ-ofZ w64 _ (s .fits .input) ∙ sym (too-far (s .args .f) (s .args .first) (s .args .held) (s .args .input) far)
 
 -- a step is taken: the filter is on, and the input is not beyond FFLV
@@ -82,7 +82,7 @@ module _ (c : tie.Else3) where
   unfolding start
   rule =
       let s = c .before .before .before .before .before .before .before in
-      let near = not-beyond (s .args .f .fflv) (s .args .input -ℤ s .args .held) (s .pre .acceptable .fflv-least) (rw (level-is s, change-is (c .before)) at (c .if3 .left)) in
+      let near = within-level (s .args .f .fflv) (s .args .input -ℤ s .args .held) (s .pre .acceptable .fflv-least) (rw (level-is s, change-is (c .before)) at (c .if3 .left)) in
       one-step (s .args .f) (s .args .first) (s .args .held) (s .args .input) (c .before .before .before .if1 .left) (not-zero-bits (s .args .f .ffst) (c .before .before .if2 .left)) steps-pos near
 
 round-div-requires : tie.Need-round-div-requires
