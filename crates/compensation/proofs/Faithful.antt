@@ -67,11 +67,11 @@ module _ (c : Calibration) (elec temp : ℤ) (ok : Acceptable c) (held : elec wi
   raw-system-near = near-gain 8 (c .system .sgai) one one-above (omega (arith, ok .system-ok .sgai-in .abs)) (near-sub cell-near (near-whole 0 32 (c .system .sofs)))
 
   sraw-near : Near 13296 32 (sraw c elec temp) (srawF c elec temp)
-  unfolding srawAt srawF
+  unfolding rawSystemAt srawAt srawF
   sraw-near = near-hold (c .system .smin) (c .system .smax) (<-≤ (ok .system-ok .ordered)) raw-system-near
 
   sys-near : Near 13296 32 (sys c elec temp) (sysF c elec temp)
-  unfolding sysAt sysF
+  unfolding srawAt sysAt sysF
   sys-near = near-sub sraw-near (near-whole 0 32 (c .system .sz))
 
 -- j/32 steps, in whole steps

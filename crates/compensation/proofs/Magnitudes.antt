@@ -18,8 +18,7 @@ use Rattle.figures.specs.declared.Cell.{Cell}
 use Rattle.figures.specs.declared.Linearity.{Linearity}
 use Rattle.figures.specs.declared.System.{System}
 use Rattle.compensation.specs.Filter.{elecMost}
-use Rattle.compensation.specs.Hold.{hold}
-use Rattle.compensation.specs.Reading.{one, scaled, inputAt, yAt, rawCellAt, crawAt, cellAt, rawSystemFrom, cell}
+use Rattle.compensation.specs.Reading.{one, scaled, inputAt, yAt, rawCellAt, crawAt, cellAt, rawSystemFrom, srawFrom, sysFrom, cell}
 use Rattle.compensation.specs.Values.{cellValuesAt, CellInput, SystemInput, CompensateInput}
 use Rattle.compensation.specs.declared.steps.Input.{Input}
 use Rattle.compensation.proofs.Held.{hold-within}
@@ -72,10 +71,10 @@ module _ (s : System) (cell : ℤ) (ok : SystemInput s cell) where
   raw-system-in : (rawSystemFrom s cell) within 34078720000
   raw-system-in = scaled-within (cell -ℤ s .sofs) (s .sgai) (within-more raw-system-product-in (omega arith))
 
-  sraw-in : (hold (s .smin) (s .smax) (rawSystemFrom s cell)) within 2097152000
+  sraw-in : (srawFrom s cell) within 2097152000
   sraw-in = hold-within (s .smin) (s .smax) (rawSystemFrom s cell) (ok .acceptable .smin-in) (ok .acceptable .smax-in)
 
-  sys-in : (hold (s .smin) (s .smax) (rawSystemFrom s cell) -ℤ s .sz) within 4194304000
+  sys-in : (sysFrom s cell) within 4194304000
   sys-in = within-add sraw-in (within-neg (ok .acceptable .sz-in))
 
 -- ---- all of them
@@ -98,8 +97,8 @@ cell-magnitudes c l i ok = record {
 -- of step 5
 pub record SystemMagnitudes (s : System) (cell : ℤ) : Type 0 where
   pub raw-system-within : (rawSystemFrom s cell) within 34078720000
-  pub sraw-within : (hold (s .smin) (s .smax) (rawSystemFrom s cell)) within 2097152000
-  pub sys-within : (hold (s .smin) (s .smax) (rawSystemFrom s cell) -ℤ s .sz) within 4194304000
+  pub sraw-within : (srawFrom s cell) within 2097152000
+  pub sys-within : (sysFrom s cell) within 4194304000
 
 pub system-magnitudes : (s : System) (cell : ℤ) → SystemInput s cell → SystemMagnitudes s cell
 system-magnitudes s cell ok = record { raw-system-within = raw-system-in s cell ok; sraw-within = sraw-in s cell ok; sys-within = sys-in s cell ok }

@@ -44,14 +44,20 @@ cellAt c l i = crawAt c i +ℤ interpolated 1 (linearities l) (crawAt c i)
 abbrev pub rawSystemFrom : System → ℤ → ℤ
 rawSystemFrom s cell = scaled (cell -ℤ s .sofs) (s .sgai)
 
+abbrev pub srawFrom : System → ℤ → ℤ
+srawFrom s cell = hold (s .smin) (s .smax) (rawSystemFrom s cell)
+
+abbrev pub sysFrom : System → ℤ → ℤ
+sysFrom s cell = srawFrom s cell -ℤ s .sz
+
 unfoldable pub rawSystemAt : Cell → Linearity → System → Input → ℤ
 rawSystemAt c l s i = rawSystemFrom s (cellAt c l i)
 
 unfoldable pub srawAt : Cell → Linearity → System → Input → ℤ
-srawAt c l s i = hold (s .smin) (s .smax) (rawSystemAt c l s i)
+srawAt c l s i = srawFrom s (cellAt c l i)
 
 unfoldable pub sysAt : Cell → Linearity → System → Input → ℤ
-sysAt c l s i = srawAt c l s i -ℤ s .sz
+sysAt c l s i = sysFrom s (cellAt c l i)
 
 -- ---- by the whole figures
 

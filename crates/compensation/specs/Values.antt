@@ -1,7 +1,7 @@
 -- What a reading leaves, and what each step of it may be handed: the bounds that keep its products within an i64.
 use mathlib.Core.Path.{_≡_}
 use Prim.Native.Nat.{ℕ}
-use lib.IntN.{ℤ, _-ℤ_}
+use lib.IntN.{ℤ}
 use Rattle.integers.specs.Within.{_within_}
 use Rattle.figures.specs.Limits.{ctoMost, ctgMost, cellMost, systemMost}
 use Rattle.figures.specs.Acceptable.{CellAcceptable, LinearityAcceptable, SystemAcceptable}
@@ -11,7 +11,7 @@ use Rattle.figures.specs.declared.System.{System}
 use Rattle.figures.specs.declared.Calibration.{Calibration}
 use Rattle.compensation.specs.Filter.{elecMost}
 use Rattle.compensation.specs.Hold.{hold}
-use Rattle.compensation.specs.Reading.{inputAt, rawCellAt, crawAt, cellAt, rawSystemFrom}
+use Rattle.compensation.specs.Reading.{inputAt, rawCellAt, crawAt, cellAt, rawSystemFrom, srawFrom, sysFrom}
 use Rattle.compensation.specs.Stat.{statOf}
 use Rattle.compensation.specs.declared.steps.CellValues.{CellValues}
 use Rattle.compensation.specs.declared.steps.Input.{Input}
@@ -26,8 +26,8 @@ unfoldable pub valuesFrom : Cell → System → CellValues → ℤ → ℤ → �
 valuesFrom c s v elec temp integrity = record {
   craw = v .craw;
   cell = v .cell;
-  sraw = hold (s .smin) (s .smax) (rawSystemFrom s (v .cell));
-  sys = hold (s .smin) (s .smax) (rawSystemFrom s (v .cell)) -ℤ s .sz;
+  sraw = srawFrom s (v .cell);
+  sys = sysFrom s (v .cell);
   stat = statOf c s elec temp (v .raw) (rawSystemFrom s (v .cell)) integrity;
 }
 

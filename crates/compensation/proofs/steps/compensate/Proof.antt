@@ -2,7 +2,7 @@
 -- asks. Assumes nothing.
 use mathlib.Core.Path.{_≡_, refl}
 use Prim.Native.Nat.{ℕ}
-use lib.IntN.{ℤ, _-ℤ_}
+use lib.IntN.{ℤ}
 use mir.Syntax.{w64}
 use mir.ValLaws.{toZ-ofZ}
 use borrow.Author.Needs.{needs}
@@ -11,8 +11,7 @@ use Rattle.integers.proofs.Machine.{stored-is}
 use Rattle.figures.specs.declared.Cell.{Cell}
 use Rattle.figures.specs.declared.System.{System}
 use Rattle.compensation.specs.declared.steps.CellValues.{CellValues}
-use Rattle.compensation.specs.Hold.{hold}
-use Rattle.compensation.specs.Reading.{rawSystemFrom}
+use Rattle.compensation.specs.Reading.{rawSystemFrom, srawFrom, sysFrom}
 use Rattle.compensation.specs.Stat.{statOf}
 use Rattle.compensation.specs.Values.{valuesFrom}
 use Rattle.compensation.proofs.Magnitudes.{Holds, SystemMagnitudes, system-magnitudes}
@@ -27,7 +26,7 @@ module _ (s : tie.Start) where
   raw = rawSystemFrom (s .args .system) (s .args .values .cell)
 
   abbrev sraw : ℤ
-  sraw = hold (s .args .system .smin) (s .args .system .smax) raw
+  sraw = srawFrom (s .args .system) (s .args .values .cell)
 
   cell-held : Holds (s .args .values .cell) (s .args .values .cell)
   cell-held = stored-is (s .pre .system-in .cell-in .abs) tt refl
@@ -42,7 +41,7 @@ raw-held c =
 sraw-held : (c : tie.After-hold-system) → Holds (c .hold-system .result) (sraw (c .before .before .before))
 sraw-held c = stored-is (in-range (c .before .before .before) .sraw-within .abs) tt (simp (raw-held (c .before)) at (c .hold-system .ensures))
 
-sys-held : (c : tie.After-net) → let s = c .before .before .before .before in Holds (c .net .result) (sraw s -ℤ s .args .system .sz)
+sys-held : (c : tie.After-net) → let s = c .before .before .before .before in Holds (c .net .result) (sysFrom (s .args .system) (s .args .values .cell))
 sys-held c = stored-is (in-range (c .before .before .before .before) .sys-within .abs) tt (simp (sraw-held (c .before)) at (c .net .ensures))
 
 -- ---- what each call asks
@@ -57,7 +56,7 @@ net-requires c κs =
 
 -- ---- the values, put together
 
-built : (c : Cell) (s : System) (v : CellValues) (elec temp : ℤ) (integrity : ℕ) {w x y z : ℤ} {n : ℕ} → w ≡ v .craw → x ≡ v .cell → y ≡ hold (s .smin) (s .smax) (rawSystemFrom s (v .cell)) → z ≡ hold (s .smin) (s .smax) (rawSystemFrom s (v .cell)) -ℤ s .sz
+built : (c : Cell) (s : System) (v : CellValues) (elec temp : ℤ) (integrity : ℕ) {w x y z : ℤ} {n : ℕ} → w ≡ v .craw → x ≡ v .cell → y ≡ srawFrom s (v .cell) → z ≡ sysFrom s (v .cell)
     → n ≡ statOf c s elec temp (v .raw) (rawSystemFrom s (v .cell)) integrity → record { craw = w; cell = x; sraw = y; sys = z; stat = n } ≡ valuesFrom c s v elec temp integrity
 unfolding valuesFrom
 built c s v elec temp integrity w x y z n = rw (w, x, z, y, n)
