@@ -1,10 +1,12 @@
 -- Bytes and the number that they write, there and back. Assumes nothing.
-use mathlib.Core.Path.{_≡_, refl, ap}
+use mathlib.Core.Path.{_≡_, refl, ap, ap₂, _∙_}
 use mathlib.Core.List.{List, [], _∷_}
 use Prim.Native.Nat.{ℕ, zero, suc, _+_, _*_, _/_, _%_, _^_, _<_}
+use native.Mathlib.Nat.{add-zero, add-assoc, pow-suc, mul-assoc, zero-mul}
 use native.Mathlib.Omega.{arith}
-use lib.ListN.{length, getD}
+use lib.ListN.{length, getD, take, drop}
 use lib.Pow.{mod-pow-add}
+use lib.Seq.{getD-drop}
 use Rattle.integers.specs.Bytes.{wordOf, wordBytes}
 
 pub length-bytes : (n u : ℕ) → length (wordBytes n u) ≡ n
@@ -24,3 +26,30 @@ bytes-word (b ∷ l) h =
     let e : (b + wordOf l * 256) % 256 ≡ b = omega arith in
     let d : (b + wordOf l * 256) / 256 ≡ wordOf l = omega arith in
     rw (e, d) (ap (λ (t : List ℕ). b ∷ t) (bytes-word l (λ i. h (suc i))))
+
+-- ---- of a slice
+
+number-more : (k : ℕ) (l : List ℕ) → wordOf (take (suc k) l) ≡ wordOf (take k l) + getD l k 0 * 256 ^ k
+number-more zero [] = refl
+number-more zero (b ∷ rest) = omega arith
+number-more (suc k) [] = omega (arith, zero-mul (256 ^ suc k))
+number-more (suc k) (b ∷ rest) = omega (arith, number-more k rest, ap (λ (p : ℕ). getD rest k 0 * p) (pow-suc 256 k), mul-assoc (getD rest k 0) (256 ^ k) 256)
+
+module _ (s : List ℕ) (i : ℕ) where
+  -- the number of the k bytes from the place i on
+  abbrev pub numberAt : ℕ → ℕ
+  numberAt zero = 0
+  numberAt (suc zero) = getD s i 0
+  numberAt (suc (suc k)) = numberAt (suc k) + getD s (i + suc k) 0 * 256 ^ suc k
+
+  pub number-at : (k : ℕ) → wordOf (take k (drop i s)) ≡ numberAt k
+  number-at zero = refl
+  number-at (suc zero) = omega (arith, number-more 0 (drop i s), getD-drop i s 0 0, ap (λ (n : ℕ). getD s n 0) (add-zero i))
+  number-at (suc (suc k)) = number-more (suc k) (drop i s) ∙ ap₂ (λ (p q : ℕ). p + q * 256 ^ suc k) (number-at (suc k)) (getD-drop i s (suc k) 0)
+
+-- the second four bytes stand above the first
+pub two-fours : (s : List ℕ) (i : ℕ) → wordOf (take 4 (drop i s)) + wordOf (take 4 (drop (i + 4) s)) * 2 ^ 32 ≡ wordOf (take 8 (drop i s))
+two-fours s i = omega (arith, number-at s i 4, number-at s (i + 4) 4, number-at s i 8, place 1, place 2, place 3)
+  where
+    place : (j : ℕ) → getD s (i + 4 + j) 0 ≡ getD s (i + (4 + j)) 0
+    place j = ap (λ (n : ℕ). getD s n 0) (add-assoc i 4 j)

@@ -1,4 +1,4 @@
--- How large a whole number may be: the one definition here that contracts cite.
+-- How large a whole number may be.
 use Prim.Native.Nat.{ℕ, _≤_}
 use lib.IntN.{ℤ, natAbs}
 

@@ -1,1 +1,2 @@
-// A library of proofs alone: see proofs/Lib.antt. It has no code that runs.
+// Whole numbers in proofs (see proofs/Lib.antt); and the bytes of a number, the one code here that runs.
+pub mod bytes;

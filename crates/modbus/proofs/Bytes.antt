@@ -1,8 +1,7 @@
 -- Any number of bytes are taken in at once, as one number. Assumes nothing.
-use mathlib.Core.Path.{_≡_, refl, sym, ap, ap₂, _∙_}
+use mathlib.Core.Path.{_≡_, refl, sym, ap, _∙_}
 use mathlib.Core.List.{List, [], _∷_, _++_}
-use Prim.Native.Nat.{ℕ, zero, suc, _+_, _*_, _^_, _≤_, _<_}
-use native.Mathlib.Nat.{pow-suc, mul-assoc, zero-mul}
+use Prim.Native.Nat.{ℕ, zero, suc, _+_, _*_, _≤_, _<_}
 use native.Mathlib.Omega.{arith}
 use lib.Bits.{bitXor, xor-zero-r, xor-lt}
 use lib.ListN.{length, getD, take, drop, length-drop}
@@ -43,22 +42,7 @@ bytes-taken zero l h = tt
 bytes-taken (suc k) [] h = tt
 bytes-taken (suc k) (b ∷ rest) h = (h 0, bytes-taken k rest (λ j. h (suc j)))
 
-number-more : (k : ℕ) (l : List ℕ) → wordOf (take (suc k) l) ≡ wordOf (take k l) + getD l k 0 * 256 ^ k
-number-more zero [] = refl
-number-more zero (b ∷ rest) = omega arith
-number-more (suc k) [] = omega (arith, zero-mul (256 ^ suc k))
-number-more (suc k) (b ∷ rest) = omega (arith, number-more k rest, ap (λ (p : ℕ). getD rest k 0 * p) (pow-suc 256 k), mul-assoc (getD rest k 0) (256 ^ k) 256)
-
 module _ (s : List ℕ) (i : ℕ) where
-  -- the number of the k bytes from the place i on
-  abbrev pub numberAt : ℕ → ℕ
-  numberAt zero = 0
-  numberAt (suc k) = numberAt k + getD s (i + k) 0 * 256 ^ k
-
-  pub number-at : (k : ℕ) → wordOf (take k (drop i s)) ≡ numberAt k
-  number-at zero = refl
-  number-at (suc k) = number-more k (drop i s) ∙ ap₂ (λ (p q : ℕ). p + q * 256 ^ k) (number-at k) (getD-drop i s k 0)
-
   pub run-at-once : ((j : ℕ) → getD s j 0 < 256) → (k : ℕ) → i + k ≤ length s → (c : ℕ) → checksumFrom c (take k (drop i s)) ≡ shifts (8 * k) (bitXor c (wordOf (take k (drop i s))))
   run-at-once small k h c =
       at-once (take k (drop i s)) (bytes-taken k (drop i s) (λ j. rw getD-drop (small (i + j)))) c

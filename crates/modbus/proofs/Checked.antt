@@ -4,7 +4,7 @@ use mathlib.Core.Path.{_≡_, refl, sym, ap, ap₂, _∙_}
 use mathlib.Core.Bool.{Bool, true, false}
 use mathlib.Core.List.{List, [], _∷_}
 use Prim.Native.Nat.{ℕ, _+_, _-_, _*_, _/_, _%_, _≤_, _<_}
-use native.Mathlib.Nat.{add-zero, div-add-mod'}
+use native.Mathlib.Nat.{div-add-mod'}
 use native.Mathlib.Omega.{arith}
 use borrow.Author.Tests.{eq-eqb, ne-eqb, eqb-true, eqb-false}
 use lib.Bits.{bitXor, xor-self, xor-lt}
@@ -12,11 +12,12 @@ use lib.Dec.{eqb}
 use lib.ListN.{length, take, drop}
 use lib.Seq.{take-length, take-at, getD-append-add}
 use Rattle.integers.specs.Bytes.{wordOf}
+use Rattle.integers.proofs.Words.{number-at}
 use Rattle.modbus.specs.Checksum.{shifts, checksumOf, framed}
 use Rattle.modbus.specs.Frame.{byteAt, checked}
 use Rattle.modbus.proofs.Xor.{xor-zero}
 use Rattle.modbus.proofs.Shifts.{shifts-up, shifts-zero}
-use Rattle.modbus.proofs.Bytes.{checksum-fits, bytes-taken, number-at, run-at-once, further}
+use Rattle.modbus.proofs.Bytes.{checksum-fits, bytes-taken, run-at-once, further}
 use Rattle.modbus.proofs.Replies.{length-framed}
 
 pub framed-checked : (l : List ℕ) → checked (framed l) ≡ true
@@ -50,7 +51,7 @@ module _ (s : List ℕ) (small : (j : ℕ) → byteAt s j < 256) (h : 2 ≤ leng
   last = byteAt s (length s - 1) * 256 + byteAt s m
 
   last-number : wordOf (take 2 (drop m s)) ≡ last
-  last-number = let place : m + 1 ≡ length s - 1 = omega arith in omega (arith, number-at s m 2, ap (byteAt s) (add-zero m), ap (byteAt s) place)
+  last-number = let place : m + 1 ≡ length s - 1 = omega arith in omega (arith, number-at s m 2, ap (byteAt s) place)
 
   whole : checksumOf s ≡ shifts 16 (bitXor (checksumOf (take m s)) last)
   whole =

@@ -2,8 +2,9 @@
 ghost use mathlib.Core.Path.{_≡_};
 ghost use Prim.Native.Nat.{_+_, _≤_, _<_};
 ghost use lib.ListN.{length, take, drop};
-ghost use Rattle.integers.specs.Bytes.{wordOf, wordBytes};
+ghost use Rattle.integers.specs.Bytes.{wordBytes};
 ghost use Rattle.modbus.specs.Checksum.{shifts, checksumFrom, checksumOf};
+use integers::bytes::four_at;
 
 // Sixty-four shifts at once, with no table: modulo X^15 + X + 1, X^30 is X^2 + 1 and X^15 is X + 1, so
 // the low bits are folded 28, 14 and 9 places up, and an odd number of ones turns over C001.
@@ -47,22 +48,13 @@ fn take_two(sum: u16, bytes: &[u8], i: usize) -> u16
     sixteen_shifts(sum ^ ((bytes[i + 1] as u16) * 256 + (bytes[i] as u16)))
 }
 
-// The four bytes from the place i on as one number, low byte first.
-pub(crate) fn number_of_four(bytes: &[u8], i: usize) -> u32
-    requires { ⌜ i + 4 ≤ length (now bytes) ⌝ }
-    ensures { λ r. ⌜ r ≡ wordOf (take 4 (drop i (now (bytes .entry)))) ⌝ }
-{
-    let low = (bytes[i] as u32) + (bytes[i + 1] as u32) * 0x100;
-    low + (bytes[i + 2] as u32) * 0x1_0000 + (bytes[i + 3] as u32) * 0x100_0000
-}
-
 // The four bytes from the place i on, taken in at once: thirty-two shifts of a number are sixty-four
 // of it 32 places higher.
 fn take_four(sum: u16, bytes: &[u8], i: usize) -> u16
     requires { ⌜ i + 4 ≤ length (now bytes) ⌝ }
     ensures { λ r. ⌜ r ≡ checksumFrom sum (take 4 (drop i (now (bytes .entry)))) ⌝ }
 {
-    sixty_four_shifts(((sum as u64) ^ (number_of_four(bytes, i) as u64)) << 32)
+    sixty_four_shifts(((sum as u64) ^ (four_at(bytes, i) as u64)) << 32)
 }
 
 // The eight bytes from the place i on, taken in at once.
@@ -70,8 +62,8 @@ fn take_eight(sum: u16, bytes: &[u8], i: usize) -> u16
     requires { ⌜ i + 8 ≤ length (now bytes) ⌝ }
     ensures { λ r. ⌜ r ≡ checksumFrom sum (take 8 (drop i (now (bytes .entry)))) ⌝ }
 {
-    let low = number_of_four(bytes, i) as u64;
-    let high = number_of_four(bytes, i + 4) as u64;
+    let low = four_at(bytes, i) as u64;
+    let high = four_at(bytes, i + 4) as u64;
     sixty_four_shifts((sum as u64) ^ (low + high * 0x1_0000_0000))
 }
 

@@ -61,7 +61,7 @@ pub fn acknowledgement(frame: &[u8], reply: &mut [u8]) -> usize
     if is_silent(frame, reply.len()) {
         return 0;
     }
-    let low = crate::checksum::number_of_four(frame, 0) as u64;
+    let low = integers::bytes::four_at(frame, 0) as u64;
     let high = (frame[4] as u64) + (frame[5] as u64) * 0x100;
     put(reply, low + high * 0x1_0000_0000, 6)
 }

@@ -1,4 +1,3 @@
-pub mod Words
 pub mod TwosComplement
 pub mod Chain
 pub mod Numbers

@@ -1,11 +1,12 @@
 // Counts and figures of a sheet: a figure is 8 bytes, two's complement, low byte first.
 ghost use mathlib.Core.Path.{_≡_};
-ghost use Prim.Native.Nat.{_+_, _≤_, _<_, _^_};
-ghost use lib.ListN.{length, getD, take, drop};
+ghost use Prim.Native.Nat.{_+_, _≤_};
+ghost use lib.ListN.{length, take, drop};
 ghost use Rattle.sheet.specs.Bytes.{wordOf, signedOf, countAt, figureAt, unsignedOf};
 ghost use Rattle.sheet.specs.Step.{countStep, figureStep};
 use crate::CountStep;
 use crate::FigureStep;
+use integers::bytes::four_at;
 
 // The count at a place; 0 past the end.
 pub fn count_at(s: &[u8], at: usize) -> u8
@@ -17,31 +18,14 @@ pub fn count_at(s: &[u8], at: usize) -> u8
     0
 }
 
-fn byte_at(s: &[u8], at: usize) -> u64
-    requires { ⌜ at < length (now s) ⌝ }
-    ensures { λ r. ⌜ (r ≡ getD (now (s .entry)) at 0) × (r < 256) ⌝ }
-{
-    s[at] as u64
-}
-
-// Four bytes, low byte first.
-fn half_at(s: &[u8], at: usize) -> u64
-    requires { ⌜ at + 4 ≤ length (now s) ⌝ }
-    ensures { λ r. ⌜ (r ≡ wordOf (take 4 (drop at (now (s .entry))))) × (r < 2 ^ 32) ⌝ }
-{
-    let a = byte_at(s, at);
-    let b = byte_at(s, at + 1);
-    let c = byte_at(s, at + 2);
-    let d = byte_at(s, at + 3);
-    a + b * 256 + c * 65_536 + d * 16_777_216
-}
-
 // Eight bytes, low byte first.
 fn word_at(s: &[u8], at: usize) -> u64
     requires { ⌜ at + 8 ≤ length (now s) ⌝ }
     ensures { λ r. ⌜ r ≡ wordOf (take 8 (drop at (now (s .entry)))) ⌝ }
 {
-    half_at(s, at) + half_at(s, at + 4) * 4_294_967_296
+    let low = four_at(s, at) as u64;
+    let high = four_at(s, at + 4) as u64;
+    low + high * 4_294_967_296
 }
 
 // The number whose two's complement the word is.

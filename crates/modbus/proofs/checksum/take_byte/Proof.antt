@@ -1,16 +1,16 @@
 -- `take_byte` meets its contract. Assumes nothing.
 use mathlib.Core.Path.{_≡_, sym, ap, _∙_}
 use Prim.Native.Nat.{ℕ, _/_}
-use native.Mathlib.Nat.{add-zero}
 use native.Mathlib.Omega.{arith}
 use denote.Ref.{now}
 use lib.Bits.{bitXor}
 use lib.ListN.{take, drop}
 use Rattle.integers.specs.Bytes.{wordOf}
+use Rattle.integers.proofs.Words.{number-at}
 use Rattle.modbus.specs.Checksum.{shifts}
 use Rattle.modbus.specs.Frame.{byteAt}
 use Rattle.modbus.proofs.Shifts.{by-byte}
-use Rattle.modbus.proofs.Bytes.{number-at, run-at-once}
+use Rattle.modbus.proofs.Bytes.{run-at-once}
 use borrow.Author.Needs.{needs}
 use Rattle.modbus.proofs.checksum.take_byte.Statement.{statement}
 use Rattle.modbus.proofs.checksum.take_byte.Tie as tie
@@ -32,7 +32,7 @@ returns c =
     let a = c .before .before .before .args in
     let s = now (a .bytes) in
     let b = byteAt s (a .i) in
-    let one : wordOf (take 1 (drop (a .i) s)) ≡ b = omega (arith, number-at s (a .i) 1, ap (byteAt s) (add-zero (a .i))) in
+    let one : wordOf (take 1 (drop (a .i) s)) ≡ b = number-at s (a .i) 1 in
     ap (λ (x : ℕ). bitXor x (a .sum / 256)) (c .sixteen-shifts .ensures) ∙ by-byte (a .sum) b (omega (arith, c .before .shared-slice-known2 .given (a .i)))
     ∙ ap (λ (n : ℕ). shifts 8 (bitXor (a .sum) n)) (sym one)
     ∙ sym (run-at-once s (a .i) (λ j. omega (arith, c .before .shared-slice-known2 .given j)) 1 (omega arith) (a .sum))

@@ -12,8 +12,8 @@ use borrow.Author.Needs.{needs}
 use Rattle.modbus.proofs.checksum.take_four.Statement.{statement}
 use Rattle.modbus.proofs.checksum.take_four.Tie as tie
 
-number-of-four-requires : tie.Need-number-of-four-requires
-number-of-four-requires c κs = search needs
+four-at-requires : tie.Need-four-at-requires
+four-at-requires c κs = search needs
 
 cast-sixty-four-shifts : tie.Need-cast-sixty-four-shifts
 cast-sixty-four-shifts c = search needs
@@ -24,14 +24,14 @@ sixty-four-shifts-requires c κs = search needs
 returns : tie.Need-returns
 returns c =
     let a = c .before .before .before .args in
-    let n = c .before .number-of-four .result in
+    let n = c .before .four-at .result in
     c .sixty-four-shifts .ensures
     ∙ ap (shifts 64) (shl-exact 32 32 64 (xor-lt 32 (a .sum) n (omega arith) (omega arith)) (omega arith))
     ∙ shifts-up 32 32 (bitXor (a .sum) n)
-    ∙ ap (λ (m : ℕ). shifts 32 (bitXor (a .sum) m)) (c .before .number-of-four .ensures)
+    ∙ ap (λ (m : ℕ). shifts 32 (bitXor (a .sum) m)) (c .before .four-at .ensures)
     ∙ sym (run-at-once (now (a .bytes)) (a .i) (λ j. omega (arith, c .before .before .shared-slice-known .given j)) 4 (omega arith) (a .sum))
 
 pub take-four-spec : {M : Type 1} → statement M
 take-four-spec =
     tie.close
-    (tie.spec number-of-four-requires cast-sixty-four-shifts sixty-four-shifts-requires returns)
+    (tie.spec four-at-requires cast-sixty-four-shifts sixty-four-shifts-requires returns)

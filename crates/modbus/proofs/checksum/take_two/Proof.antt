@@ -1,15 +1,15 @@
 -- `take_two` meets its contract. Assumes nothing.
 use mathlib.Core.Path.{_≡_, sym, ap, _∙_}
 use Prim.Native.Nat.{ℕ, _+_, _*_}
-use native.Mathlib.Nat.{add-zero}
 use native.Mathlib.Omega.{arith}
 use denote.Ref.{now}
 use lib.Bits.{bitXor}
 use lib.ListN.{take, drop}
 use Rattle.integers.specs.Bytes.{wordOf}
+use Rattle.integers.proofs.Words.{number-at}
 use Rattle.modbus.specs.Checksum.{shifts}
 use Rattle.modbus.specs.Frame.{byteAt}
-use Rattle.modbus.proofs.Bytes.{number-at, run-at-once}
+use Rattle.modbus.proofs.Bytes.{run-at-once}
 use borrow.Author.Needs.{needs}
 use Rattle.modbus.proofs.checksum.take_two.Statement.{statement}
 use Rattle.modbus.proofs.checksum.take_two.Tie as tie
@@ -42,7 +42,7 @@ returns : tie.Need-returns
 returns c =
     let a = c .before .before .before .before .args in
     let s = now (a .bytes) in
-    let two : byteAt s (a .i + 1) * 256 + byteAt s (a .i) ≡ wordOf (take 2 (drop (a .i) s)) = omega (arith, number-at s (a .i) 2, ap (byteAt s) (add-zero (a .i))) in
+    let two : byteAt s (a .i + 1) * 256 + byteAt s (a .i) ≡ wordOf (take 2 (drop (a .i) s)) = omega (arith, number-at s (a .i) 2) in
     c .sixteen-shifts .ensures ∙ ap (λ (n : ℕ). shifts 16 (bitXor (a .sum) n)) two
     ∙ sym (run-at-once s (a .i) (λ j. omega (arith, c .before .shared-slice-known3 .given j)) 2 (omega arith) (a .sum))
 

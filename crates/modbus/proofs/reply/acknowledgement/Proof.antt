@@ -8,9 +8,10 @@ use borrow.Author.Tests.{eq-eqb, ne-eqb}
 use denote.Ref.{now}
 use lib.ListN.{length, take}
 use lib.Seq.{length-take-le}
+use Rattle.integers.proofs.Words.{number-at}
 use Rattle.modbus.specs.Frame.{byteAt}
 use Rattle.modbus.specs.Reply.{silent, answer, writeReply, Replied}
-use Rattle.modbus.proofs.Bytes.{bytes-taken, number-at}
+use Rattle.modbus.proofs.Bytes.{bytes-taken}
 use Rattle.modbus.proofs.Replies.{enough, replied, unreplied}
 use borrow.Author.Needs.{needs}
 use Rattle.modbus.proofs.reply.acknowledgement.Statement.{statement}
@@ -35,8 +36,8 @@ returns-2 c =
     let a = c .before .before .before .before .before .args in
     whole (now (a .frame)) (now (a .reply)) (now (a .reply)) 0 (c .before .before .if1 .left) (unreplied (now (a .frame)) (now (a .reply)) (take 6 (now (a .frame))) (sym (c .before .is-silent .ensures) ∙ c .if2 .taken))
 
-number-of-four-requires : tie.Need-number-of-four-requires
-number-of-four-requires c κs = search needs
+four-at-requires : tie.Need-four-at-requires
+four-at-requires c κs = search needs
 
 cast-low : tie.Need-cast-low
 cast-low c = search needs
@@ -76,7 +77,7 @@ returns-3 c =
     let e = c .before .before .before .before .before .before .before in
     let a = e .before .before .before .before .before .args in
     let s = now (a .frame) in
-    let low = c .before .before .before .before .before .before .number-of-four in
+    let low = c .before .before .before .before .before .before .four-at in
     let n = e .before .before .if1 .left in
     whole s (now (a .reply)) (c .before .before .put .last .0) (c .before .before .put .result) n
     (replied s (now (a .reply)) (take 6 s) (c .before .before .put .last .0) 6 (low .result + (byteAt s 4 + byteAt s 5 * 0x100) * 0x100000000) (c .before .before .put .result) (speaks e)
@@ -92,7 +93,7 @@ acknowledgement-spec =
     returns
     is-silent-requires
     returns-2
-    number-of-four-requires
+    four-at-requires
     cast-low
     shared-slice-read-high
     cast-high
