@@ -1,6 +1,9 @@
--- Bytes and the number that they write, low byte first.
+-- Bytes: the number that they write, low byte first; and a text of them that is put into a buffer.
+use mathlib.Core.Path.{_≡_}
 use mathlib.Core.List.{List, [], _∷_}
-use Prim.Native.Nat.{ℕ, zero, suc, _+_, _*_, _/_, _%_}
+use Prim.Native.Nat.{ℕ, zero, suc, _+_, _*_, _/_, _%_, _≤_}
+use lib.ListN.{length}
+use lib.Seq.{sets}
 
 -- the number whose digits to base 256 are the bytes
 abbrev pub wordOf : List ℕ → ℕ
@@ -11,3 +14,9 @@ wordOf (b ∷ rest) = b + wordOf rest * 256
 abbrev pub wordBytes : ℕ → ℕ → List ℕ
 wordBytes zero u = []
 wordBytes (suc n) u = (u % 256) ∷ wordBytes n (u / 256)
+
+-- The text is stored at a place of a buffer, byte by byte, and nothing else is; r is the place after it.
+pub record Put (text before : List ℕ) (at : ℕ) (after : List ℕ) (r : ℕ) : Type 0 where
+  pub is : after ≡ sets before at text
+  pub next : r ≡ at + length text
+  pub fits : r ≤ length after

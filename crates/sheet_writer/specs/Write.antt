@@ -1,10 +1,9 @@
 -- Writing a sheet: the number, and what a lent buffer holds afterwards.
 use mathlib.Core.Bool.{cond}
-use mathlib.Core.Path.{_≡_}
 use mathlib.Core.List.{List, _++_}
 use Prim.Native.Nat.{ℕ}
 use lib.Dec.{ltb, eqb}
-use lib.ListN.{length, take, drop}
+use lib.ListN.{length, drop}
 use Rattle.figures.specs.declared.Calibration.{Calibration}
 use Rattle.sheet.specs.Judge.{_then_, figuresNumber, sheetLength}
 use Rattle.sheet.specs.Write.{sheetBytes}
@@ -23,9 +22,3 @@ writtenOf c out = record { number = writeNumber c out; length = cond (eqb (write
 -- the buffer: the sheet, and past it what was there; "No refusal changes a .. buffer"
 unfoldable pub outAfter : Calibration → List ℕ → List ℕ
 outAfter c out = cond (eqb (writeNumber c out) 0) (sheetBytes c ++ drop (sheetLength c) out) out
-
--- ---- on the way: bytes stand from `at` up to `end`, and nothing else is changed
-pub record Wrote (old new : List ℕ) (at end : ℕ) (bytes : List ℕ) : Type 0 where
-  pub same : length new ≡ length old
-  pub front : take end new ≡ take at old ++ bytes
-  pub rest : drop end new ≡ drop end old

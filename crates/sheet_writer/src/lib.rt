@@ -1,14 +1,15 @@
 // Writing a calibration sheet (01, "The calibration sheet") straight into a lent buffer: a section is its count, one byte, and then
 // its figures.
 ghost use mathlib.Core.Path.{_≡_};
-ghost use mathlib.Core.List.{_++_, _∷_, []};
-ghost use Prim.Native.Nat.{_+_, _*_, _≤_, _<_};
+ghost use mathlib.Core.List.{_++_};
+ghost use Prim.Native.Nat.{_+_, _*_, _≤_};
 ghost use lib.ListN.{length};
+ghost use Rattle.integers.specs.Bytes.{Put};
 ghost use Rattle.figures.specs.Default.{noTemperature, noLinearity};
 ghost use Rattle.sheet.specs.Bytes.{figureBytes};
 ghost use Rattle.sheet.specs.Judge.{sheetLength};
 ghost use Rattle.sheet.specs.Write.{cellBytes, temperaturePointBytes, linearityPointBytes, pointsBytes, temperatureBytes, linearityBytes, systemBytes, filterBytes, sheetBytes};
-ghost use Rattle.sheet_writer.specs.Write.{writtenOf, outAfter, Wrote};
+ghost use Rattle.sheet_writer.specs.Write.{writtenOf, outAfter};
 use figures::Calibration;
 use figures::Cell;
 use figures::Filter;
@@ -30,7 +31,7 @@ pub struct Written {
 
 fn put_figure(out: &mut [u8], at: usize, v: i64)
     requires { ⌜ at + 8 ≤ length (now out) ⌝ }
-    ensures { λ _. ⌜ Wrote (now (out .entry)) (now (out .exit)) at (at + 8) (figureBytes v) ⌝ }
+    ensures { λ _. ⌜ Put (figureBytes v) (now (out .entry)) at (now (out .exit)) (at + 8) ⌝ }
 {
     let mut word = unsigned(v);
     let mut i: usize = 0;
@@ -43,7 +44,7 @@ fn put_figure(out: &mut [u8], at: usize, v: i64)
 
 fn put_four(out: &mut [u8], at: usize, a: i64, b: i64, c: i64, d: i64)
     requires { ⌜ at + 32 ≤ length (now out) ⌝ }
-    ensures { λ _. ⌜ Wrote (now (out .entry)) (now (out .exit)) at (at + 32) (figureBytes a ++ figureBytes b ++ figureBytes c ++ figureBytes d) ⌝ }
+    ensures { λ _. ⌜ Put (figureBytes a ++ figureBytes b ++ figureBytes c ++ figureBytes d) (now (out .entry)) at (now (out .exit)) (at + 32) ⌝ }
 {
     put_figure(out, at, a);
     put_figure(out, at + 8, b);
@@ -53,7 +54,7 @@ fn put_four(out: &mut [u8], at: usize, a: i64, b: i64, c: i64, d: i64)
 
 fn put_cell(out: &mut [u8], at: usize, cell: Cell)
     requires { ⌜ at + 33 ≤ length (now out) ⌝ }
-    ensures { λ _. ⌜ Wrote (now (out .entry)) (now (out .exit)) at (at + 33) (cellBytes cell) ⌝ }
+    ensures { λ _. ⌜ Put (cellBytes cell) (now (out .entry)) at (now (out .exit)) (at + 33) ⌝ }
 {
     out[at] = 4;
     put_four(out, at + 1, cell.cofs, cell.cgai, cell.cmin, cell.cmax);
@@ -61,7 +62,7 @@ fn put_cell(out: &mut [u8], at: usize, cell: Cell)
 
 fn put_temperature_point(out: &mut [u8], at: usize, point: TemperaturePoint)
     requires { ⌜ at + 24 ≤ length (now out) ⌝ }
-    ensures { λ _. ⌜ Wrote (now (out .entry)) (now (out .exit)) at (at + 24) (temperaturePointBytes point) ⌝ }
+    ensures { λ _. ⌜ Put (temperaturePointBytes point) (now (out .entry)) at (now (out .exit)) (at + 24) ⌝ }
 {
     put_figure(out, at, point.ct);
     put_figure(out, at + 8, point.cto);
@@ -71,7 +72,7 @@ fn put_temperature_point(out: &mut [u8], at: usize, point: TemperaturePoint)
 // The first `n` points.
 fn put_temperature_points(out: &mut [u8], at: usize, points: [TemperaturePoint; 5], n: usize)
     requires { ⌜ (n ≤ 5) × (at + 24 * n ≤ length (now out)) ⌝ }
-    ensures { λ _. ⌜ Wrote (now (out .entry)) (now (out .exit)) at (at + 24 * n) (pointsBytes noTemperature temperaturePointBytes points n) ⌝ }
+    ensures { λ _. ⌜ Put (pointsBytes noTemperature temperaturePointBytes points n) (now (out .entry)) at (now (out .exit)) (at + 24 * n) ⌝ }
 {
     let mut i: usize = 0;
     while i < n {
@@ -83,7 +84,7 @@ fn put_temperature_points(out: &mut [u8], at: usize, points: [TemperaturePoint; 
 
 fn put_temperature(out: &mut [u8], at: usize, temperature: Temperature)
     requires { ⌜ (temperature .ctn ≤ 5) × (at + 1 + 24 * temperature .ctn ≤ length (now out)) ⌝ }
-    ensures { λ _. ⌜ Wrote (now (out .entry)) (now (out .exit)) at (at + 1 + 24 * temperature .ctn) (temperatureBytes temperature) ⌝ }
+    ensures { λ _. ⌜ Put (temperatureBytes temperature) (now (out .entry)) at (now (out .exit)) (at + 1 + 24 * temperature .ctn) ⌝ }
 {
     let ctn = temperature.ctn;
     let points = temperature.points;
@@ -93,7 +94,7 @@ fn put_temperature(out: &mut [u8], at: usize, temperature: Temperature)
 
 fn put_linearity_point(out: &mut [u8], at: usize, point: LinearityPoint)
     requires { ⌜ at + 16 ≤ length (now out) ⌝ }
-    ensures { λ _. ⌜ Wrote (now (out .entry)) (now (out .exit)) at (at + 16) (linearityPointBytes point) ⌝ }
+    ensures { λ _. ⌜ Put (linearityPointBytes point) (now (out .entry)) at (now (out .exit)) (at + 16) ⌝ }
 {
     put_figure(out, at, point.clx);
     put_figure(out, at + 8, point.clk);
@@ -102,7 +103,7 @@ fn put_linearity_point(out: &mut [u8], at: usize, point: LinearityPoint)
 // The first `n` points.
 fn put_linearity_points(out: &mut [u8], at: usize, points: [LinearityPoint; 7], n: usize)
     requires { ⌜ (n ≤ 7) × (at + 16 * n ≤ length (now out)) ⌝ }
-    ensures { λ _. ⌜ Wrote (now (out .entry)) (now (out .exit)) at (at + 16 * n) (pointsBytes noLinearity linearityPointBytes points n) ⌝ }
+    ensures { λ _. ⌜ Put (pointsBytes noLinearity linearityPointBytes points n) (now (out .entry)) at (now (out .exit)) (at + 16 * n) ⌝ }
 {
     let mut i: usize = 0;
     while i < n {
@@ -114,7 +115,7 @@ fn put_linearity_points(out: &mut [u8], at: usize, points: [LinearityPoint; 7], 
 
 fn put_linearity(out: &mut [u8], at: usize, linearity: Linearity)
     requires { ⌜ (linearity .cln ≤ 7) × (at + 1 + 16 * linearity .cln ≤ length (now out)) ⌝ }
-    ensures { λ _. ⌜ Wrote (now (out .entry)) (now (out .exit)) at (at + 1 + 16 * linearity .cln) (linearityBytes linearity) ⌝ }
+    ensures { λ _. ⌜ Put (linearityBytes linearity) (now (out .entry)) at (now (out .exit)) (at + 1 + 16 * linearity .cln) ⌝ }
 {
     let cln = linearity.cln;
     let points = linearity.points;
@@ -124,7 +125,7 @@ fn put_linearity(out: &mut [u8], at: usize, linearity: Linearity)
 
 fn put_system(out: &mut [u8], at: usize, system: System)
     requires { ⌜ at + 41 ≤ length (now out) ⌝ }
-    ensures { λ _. ⌜ Wrote (now (out .entry)) (now (out .exit)) at (at + 41) (systemBytes system) ⌝ }
+    ensures { λ _. ⌜ Put (systemBytes system) (now (out .entry)) at (now (out .exit)) (at + 41) ⌝ }
 {
     out[at] = 5;
     put_four(
@@ -140,7 +141,7 @@ fn put_system(out: &mut [u8], at: usize, system: System)
 
 fn put_filter(out: &mut [u8], at: usize, filter: Filter)
     requires { ⌜ at + 17 ≤ length (now out) ⌝ }
-    ensures { λ _. ⌜ Wrote (now (out .entry)) (now (out .exit)) at (at + 17) (filterBytes filter) ⌝ }
+    ensures { λ _. ⌜ Put (filterBytes filter) (now (out .entry)) at (now (out .exit)) (at + 17) ⌝ }
 {
     out[at] = 2;
     put_figure(out, at + 1, filter.fflv);
@@ -150,7 +151,7 @@ fn put_filter(out: &mut [u8], at: usize, filter: Filter)
 // The whole sheet at the front of the buffer.
 fn put_sheet(out: &mut [u8], figures: Calibration)
     requires { ⌜ (figures .temperature .ctn ≤ 5) × (figures .linearity .cln ≤ 7) × (sheetLength figures ≤ length (now out)) ⌝ }
-    ensures { λ _. ⌜ Wrote (now (out .entry)) (now (out .exit)) 0 (sheetLength figures) (sheetBytes figures) ⌝ }
+    ensures { λ _. ⌜ Put (sheetBytes figures) (now (out .entry)) 0 (now (out .exit)) (sheetLength figures) ⌝ }
 {
     let linearity_at = 34 + 24 * (figures.temperature.ctn as usize);
     let system_at = linearity_at + 1 + 16 * (figures.linearity.cln as usize);

@@ -1,10 +1,11 @@
 -- One piece behind the other. Assumes nothing.
-use Rattle.sheet_writer.proofs.Pieces.{four-as, store, wrote-as, wrote-more}
+use Rattle.integers.proofs.Puts.{_then_, reads, upto}
+use Rattle.sheet_writer.proofs.Pieces.{four-as, store}
 use Rattle.sheet.specs.Bytes.{figureBytes}
 use Rattle.sheet.specs.Write.{cellBytes}
 use lib.ListN.{length-set}
-use mathlib.Core.List.{[], _∷_, append-assoc}
-use mathlib.Core.Path.{_∙_, _≡_, refl}
+use mathlib.Core.List.{append-assoc}
+use mathlib.Core.Path.{_∙_, _≡_}
 use mir.Syntax.{w64}
 use mir.Val.{ofZ, toZ}
 use native.Mathlib.Omega.{arith}
@@ -22,7 +23,7 @@ put-four-requires : tie.Need-put-four-requires
 put-four-requires c κs = simp length-set (omega arith)
 
 same-length : tie.Need-same-length
-same-length c = c .before .before .put-four .ensures .same ∙ simp length-set
+same-length c = c .before .before .put-four .kept .0 ∙ simp length-set
 
 returns : tie.Need-returns
 unfolding cellBytes
@@ -32,7 +33,7 @@ returns c =
     let b2 : toZ w64 (ofZ w64 (s .args .cell .cgai)) ≡ s .args .cell .cgai = search needs in
     let b3 : toZ w64 (ofZ w64 (s .args .cell .cmin)) ≡ s .args .cell .cmin = search needs in
     let b4 : toZ w64 (ofZ w64 (s .args .cell .cmax)) ≡ s .args .cell .cmax = search needs in
-    wrote-as (wrote-more (store (s .args .out .now) (s .args .at) 4 (omega arith)) (omega arith) (omega arith) (wrote-as (c .before .before .put-four .ensures) refl (four-as figureBytes b1 b2 b3 b4))) (omega arith) (simp append-assoc)
+    reads (simp append-assoc) (upto (omega arith) (store (s .args .out .now) (s .args .at) 4 (omega arith) then reads (four-as figureBytes b1 b2 b3 b4) (c .before .before .put-four .ensures)))
 
 pub put-cell-spec : {M : Type 1} → statement M
 put-cell-spec =

@@ -1,11 +1,9 @@
--- Invariant: what is written and what is left of the word make up the eight bytes. Assumes nothing.
-use Prim.Native.Nat.{_%_, _+_, _-_, _≤_, suc, ℕ}
-use Rattle.integers.proofs.Machine.{fits}
-use Rattle.sheet_writer.proofs.Pieces.{byte-more, later, store}
+-- Invariant: what is left of the word, on top of what is written, makes up the eight bytes. Assumes nothing.
+use Prim.Native.Nat.{_+_, _-_, _≤_, suc, ℕ}
 use Rattle.sheet.specs.Bytes.{figureBytes, wordBytes}
-use lib.ListN.{drop, length, take}
-use mathlib.Core.List.{_++_, append-nil}
-use mathlib.Core.Path.{_∙_, _≡_, ap, refl, sym}
+use lib.ListN.{length, length-set}
+use lib.Seq.{sets}
+use mathlib.Core.Path.{_∙_, _≡_, ap, refl}
 use mir.Facts.{toZ-ofZ}
 use native.Mathlib.Omega.{arith}
 use borrow.Author.Needs.{needs}
@@ -13,7 +11,7 @@ use Rattle.sheet_writer.proofs.put_figure.Statement.{statement}
 use Rattle.sheet_writer.proofs.put_figure.Tie as tie
 
 abbrev Inv-loop : tie.InvT-loop
-Inv-loop out₀ at v word₀ i₀ out word i = (take (at + i) out ++ wordBytes (8 - i) word ≡ take at out₀ ++ wordBytes 8 word₀) × (length out ≡ length out₀) × (drop (at + 8) out ≡ drop (at + 8) out₀) × (i ≤ 8)
+Inv-loop out₀ at v word₀ i₀ out word i = (sets out (at + i) (wordBytes (8 - i) word) ≡ sets out₀ at (wordBytes 8 word₀)) × (length out ≡ length out₀) × (i ≤ 8)
 
 abbrev μ-loop : tie.MeasureT-loop
 μ-loop out₀ at v word₀ i₀ out word i = 8 - i
@@ -24,7 +22,7 @@ unsigned-requires c κs = tt
 loop-holds : tie.Need-loop-holds Inv-loop μ-loop
 loop-holds c =
     let e : c .before .before .args .at + 0 ≡ c .before .before .args .at = omega arith in
-    (rw e, refl, refl, omega arith)
+    (rw e, refl, omega arith)
 
 cast-out : tie.Need-cast-out Inv-loop μ-loop
 cast-out c = omega arith
@@ -45,10 +43,9 @@ loop-again : tie.Need-loop-again Inv-loop μ-loop
 loop-again c =
     let l = c .before .loop in
     let at = c .before .before .before .before .args .at in
-    let e : at + (l .i + 1) ≡ at + l .i + 1 = omega arith in
+    let e : at + (l .i + 1) ≡ suc (at + l .i) = omega arith in
     let d : 8 - l .i ≡ suc (8 - (l .i + 1)) = omega arith in
-    let w = store (l .out) (at + l .i) (l .word % 256) (omega arith) in
-    (byte-more (take (at + l .i) (l .out)) _ _ _ (l .word) d (l .inv .0) (rw (← e) at (w .front)), omega (arith, w .same), later _ _ {q = at + l .i + 1} {r = at + 8} (omega arith) (w .rest) ∙ l .inv .2, omega arith)
+    (rw e (rw d at (l .inv .0)), simp length-set (l .inv .1), omega arith)
 
 same-length : tie.Need-same-length Inv-loop μ-loop
 same-length c = search needs
@@ -58,9 +55,8 @@ unfolding figureBytes
 returns c =
     let e : c .before .loop .i ≡ 8 = omega arith in
     let s = c .before .before .before .before in
-    let h = rw e at (c .before .loop .inv .0) in
     let v = simp (toZ-ofZ, s .fits .v) at (c .before .before .unsigned .ensures) in
-    record { same = c .before .loop .inv .1; front = sym (append-nil _) ∙ h ∙ ap (λ (x : ℕ). take (s .args .at) (s .args .out .now) ++ wordBytes 8 x) v; rest = c .before .loop .inv .2 }
+    record { is = rw e at (c .before .loop .inv .0) ∙ ap (λ (x : ℕ). sets (s .args .out .now) (s .args .at) (wordBytes 8 x)) v; next = refl; fits = omega arith }
 
 pub put-figure-spec : {M : Type 1} → statement M
 put-figure-spec =

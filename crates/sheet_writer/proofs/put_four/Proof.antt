@@ -1,8 +1,7 @@
 -- One piece behind the other. Assumes nothing.
-use Rattle.integers.proofs.Machine.{fits}
-use Rattle.sheet_writer.proofs.Pieces.{wrote-as, wrote-more}
+use Rattle.integers.proofs.Puts.{_then_, joined, reads, upto}
 use Rattle.sheet.specs.Bytes.{figureBytes}
-use mathlib.Core.Path.{ap, refl}
+use mathlib.Core.Path.{ap}
 use mir.Facts.{toZ-ofZ}
 use native.Mathlib.Omega.{arith}
 use borrow.Author.Needs.{needs}
@@ -36,7 +35,11 @@ same-length c = search needs
 returns : tie.Need-returns
 returns c =
     let s = c .before .before .before .before .before .before .before .before .before .before .before .before .before .before .before .before .before in
-    wrote-as (wrote-more (wrote-more (wrote-more (wrote-as (c .before .before .before .before .before .before .before .before .before .before .before .before .before .before .put-figure .ensures) refl (ap figureBytes (toZ-ofZ (s .fits .a)))) (omega arith) (omega arith) (wrote-as (c .before .before .before .before .before .before .before .before .before .before .put-figure2 .ensures) refl (ap figureBytes (toZ-ofZ (s .fits .b))))) (omega arith) (omega arith) (wrote-as (c .before .before .before .before .before .before .put-figure3 .ensures) refl (ap figureBytes (toZ-ofZ (s .fits .c))))) (omega arith) (omega arith) (wrote-as (c .before .before .put-figure4 .ensures) refl (ap figureBytes (toZ-ofZ (s .fits .d))))) (omega arith) (refl)
+    let p1 = reads (ap figureBytes (toZ-ofZ (s .fits .a))) (c .before .before .before .before .before .before .before .before .before .before .before .before .before .before .put-figure .ensures) in
+    let p2 = reads (ap figureBytes (toZ-ofZ (s .fits .b))) (c .before .before .before .before .before .before .before .before .before .before .put-figure2 .ensures) in
+    let p3 = reads (ap figureBytes (toZ-ofZ (s .fits .c))) (c .before .before .before .before .before .before .put-figure3 .ensures) in
+    let p4 = reads (ap figureBytes (toZ-ofZ (s .fits .d))) (c .before .before .put-figure4 .ensures) in
+    upto (omega arith) (joined (joined (p1 then p2) (omega arith) p3) (omega arith) p4)
 
 pub put-four-spec : {M : Type 1} → statement M
 put-four-spec =

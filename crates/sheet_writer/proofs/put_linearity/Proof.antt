@@ -1,9 +1,9 @@
 -- One piece behind the other. Assumes nothing.
-use Rattle.sheet_writer.proofs.Pieces.{store, wrote-as, wrote-more}
+use Rattle.integers.proofs.Puts.{_then_}
+use Rattle.sheet_writer.proofs.Pieces.{store}
 use Rattle.sheet.specs.Write.{linearityBytes}
 use lib.ListN.{length-set}
-use mathlib.Core.List.{[], _∷_}
-use mathlib.Core.Path.{_∙_, refl}
+use mathlib.Core.Path.{_∙_}
 use native.Mathlib.Omega.{arith}
 use borrow.Author.Needs.{needs}
 use Rattle.sheet_writer.proofs.put_linearity.Statement.{statement}
@@ -22,13 +22,13 @@ put-linearity-points-requires : tie.Need-put-linearity-points-requires
 put-linearity-points-requires c κs = search needs
 
 same-length : tie.Need-same-length
-same-length c = c .before .before .put-linearity-points .ensures .same ∙ simp length-set
+same-length c = c .before .before .put-linearity-points .kept .0 ∙ simp length-set
 
 returns : tie.Need-returns
 unfolding linearityBytes
 returns c =
     let s = c .before .before .before .before .before .before in
-    wrote-more (store (s .args .out .now) (s .args .at) (s .args .linearity .cln) (omega arith)) refl (omega arith) (c .before .before .put-linearity-points .ensures)
+    store (s .args .out .now) (s .args .at) (s .args .linearity .cln) (omega arith) then c .before .before .put-linearity-points .ensures
 
 pub put-linearity-spec : {M : Type 1} → statement M
 put-linearity-spec =

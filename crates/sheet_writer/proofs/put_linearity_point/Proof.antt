@@ -1,8 +1,8 @@
 -- One piece behind the other. Assumes nothing.
-use Rattle.sheet_writer.proofs.Pieces.{wrote-as, wrote-more}
+use Rattle.integers.proofs.Puts.{_then_, reads, upto}
 use Rattle.sheet.specs.Bytes.{figureBytes}
 use Rattle.sheet.specs.Write.{linearityPointBytes}
-use mathlib.Core.Path.{_≡_, ap, refl}
+use mathlib.Core.Path.{_≡_, ap}
 use mir.Syntax.{w64}
 use mir.Val.{ofZ, toZ}
 use native.Mathlib.Omega.{arith}
@@ -28,7 +28,7 @@ returns c =
     let s = c .before .before .before .before .before .before .before .before .before .before .before in
     let b1 : toZ w64 (ofZ w64 (s .args .point .clx)) ≡ s .args .point .clx = search needs in
     let b2 : toZ w64 (ofZ w64 (s .args .point .clk)) ≡ s .args .point .clk = search needs in
-    wrote-as (wrote-more (wrote-as (c .before .before .before .before .before .before .before .put-figure .ensures) refl (ap figureBytes b1)) (omega arith) (omega arith) (wrote-as (c .before .before .put-figure2 .ensures) refl (ap figureBytes b2))) (omega arith) (refl)
+    upto (omega arith) (reads (ap figureBytes b1) (c .before .before .before .before .before .before .before .put-figure .ensures) then reads (ap figureBytes b2) (c .before .before .put-figure2 .ensures))
 
 pub put-linearity-point-spec : {M : Type 1} → statement M
 put-linearity-point-spec =

@@ -1,8 +1,6 @@
 -- One section behind the other. Assumes nothing.
-use Rattle.sheet_writer.proofs.Pieces.{wrote-more}
+use Rattle.integers.proofs.Puts.{_then_}
 use Rattle.sheet.specs.Write.{sheetBytes}
-use mathlib.Core.Path.{refl}
-use native.Mathlib.Omega.{arith}
 use borrow.Author.Needs.{needs}
 use Rattle.sheet_writer.proofs.put_sheet.Statement.{statement}
 use Rattle.sheet_writer.proofs.put_sheet.Tie as tie
@@ -51,7 +49,12 @@ same-length c = search needs
 
 returns : tie.Need-returns
 unfolding sheetBytes
-returns c = wrote-more (wrote-more (wrote-more (wrote-more (c .before .before .before .before .before .before .before .before .before .before .before .before .before .before .before .before .before .before .put-cell .ensures) refl (omega arith) (c .before .before .before .before .before .before .before .before .before .before .before .before .before .before .put-temperature .ensures)) refl (omega arith) (c .before .before .before .before .before .before .before .before .before .before .put-linearity .ensures)) refl (omega arith) (c .before .before .before .before .before .before .put-system .ensures)) refl (omega arith) (c .before .before .put-filter .ensures)
+returns c =
+    let cell = c .before .before .before .before .before .before .before .before .before .before .before .before .before .before .before .before .before .before .put-cell .ensures in
+    let temperature = c .before .before .before .before .before .before .before .before .before .before .before .before .before .before .put-temperature .ensures in
+    let linearity = c .before .before .before .before .before .before .before .before .before .before .put-linearity .ensures in
+    let system = c .before .before .before .before .before .before .put-system .ensures in
+    (((cell then temperature) then linearity) then system) then c .before .before .put-filter .ensures
 
 pub put-sheet-spec : {M : Type 1} → statement M
 put-sheet-spec =

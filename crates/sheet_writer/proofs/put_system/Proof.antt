@@ -1,10 +1,11 @@
 -- One piece behind the other. Assumes nothing.
-use Rattle.sheet_writer.proofs.Pieces.{four-as, store, wrote-as, wrote-more}
+use Rattle.integers.proofs.Puts.{_then_, joined, reads, upto}
+use Rattle.sheet_writer.proofs.Pieces.{four-as, store}
 use Rattle.sheet.specs.Bytes.{figureBytes}
 use Rattle.sheet.specs.Write.{systemBytes}
 use lib.ListN.{length-set}
-use mathlib.Core.List.{[], _∷_, append-assoc}
-use mathlib.Core.Path.{_∙_, _≡_, ap, refl}
+use mathlib.Core.List.{append-assoc}
+use mathlib.Core.Path.{_∙_, _≡_, ap}
 use mir.Syntax.{w64}
 use mir.Val.{ofZ, toZ}
 use native.Mathlib.Omega.{arith}
@@ -25,10 +26,10 @@ add-put-figure : tie.Need-add-put-figure
 add-put-figure c = search needs
 
 put-figure-requires : tie.Need-put-figure-requires
-put-figure-requires c κs = omega (arith, simp length-set at (c .before .before .before .before .put-four .ensures .same))
+put-figure-requires c κs = omega (arith, simp length-set at (c .before .before .before .before .put-four .kept .0))
 
 same-length : tie.Need-same-length
-same-length c = c .before .before .put-figure .ensures .same ∙ c .before .before .before .before .before .before .before .put-four .ensures .same ∙ simp length-set
+same-length c = c .before .before .put-figure .kept .0 ∙ c .before .before .before .before .before .before .before .put-four .kept .0 ∙ simp length-set
 
 returns : tie.Need-returns
 unfolding systemBytes
@@ -39,7 +40,10 @@ returns c =
     let b3 : toZ w64 (ofZ w64 (s .args .system .smin)) ≡ s .args .system .smin = search needs in
     let b4 : toZ w64 (ofZ w64 (s .args .system .smax)) ≡ s .args .system .smax = search needs in
     let b5 : toZ w64 (ofZ w64 (s .args .system .sz)) ≡ s .args .system .sz = search needs in
-    wrote-as (wrote-more (wrote-more (store (s .args .out .now) (s .args .at) 5 (omega arith)) (omega arith) (omega arith) (wrote-as (c .before .before .before .before .before .before .before .put-four .ensures) refl (four-as figureBytes b1 b2 b3 b4))) (omega arith) (omega arith) (wrote-as (c .before .before .put-figure .ensures) refl (ap figureBytes b5))) (omega arith) (simp append-assoc)
+    let p1 = store (s .args .out .now) (s .args .at) 5 (omega arith) in
+    let p2 = reads (four-as figureBytes b1 b2 b3 b4) (c .before .before .before .before .before .before .before .put-four .ensures) in
+    let p3 = reads (ap figureBytes b5) (c .before .before .put-figure .ensures) in
+    reads (simp append-assoc) (upto (omega arith) (joined (p1 then p2) (omega arith) p3))
 
 pub put-system-spec : {M : Type 1} → statement M
 put-system-spec =

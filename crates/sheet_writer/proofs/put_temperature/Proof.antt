@@ -1,9 +1,9 @@
 -- One piece behind the other. Assumes nothing.
-use Rattle.sheet_writer.proofs.Pieces.{store, wrote-as, wrote-more}
+use Rattle.integers.proofs.Puts.{_then_}
+use Rattle.sheet_writer.proofs.Pieces.{store}
 use Rattle.sheet.specs.Write.{temperatureBytes}
 use lib.ListN.{length-set}
-use mathlib.Core.List.{[], _∷_}
-use mathlib.Core.Path.{_∙_, refl}
+use mathlib.Core.Path.{_∙_}
 use native.Mathlib.Omega.{arith}
 use borrow.Author.Needs.{needs}
 use Rattle.sheet_writer.proofs.put_temperature.Statement.{statement}
@@ -22,13 +22,13 @@ put-temperature-points-requires : tie.Need-put-temperature-points-requires
 put-temperature-points-requires c κs = search needs
 
 same-length : tie.Need-same-length
-same-length c = c .before .before .put-temperature-points .ensures .same ∙ simp length-set
+same-length c = c .before .before .put-temperature-points .kept .0 ∙ simp length-set
 
 returns : tie.Need-returns
 unfolding temperatureBytes
 returns c =
     let s = c .before .before .before .before .before .before in
-    wrote-more (store (s .args .out .now) (s .args .at) (s .args .temperature .ctn) (omega arith)) refl (omega arith) (c .before .before .put-temperature-points .ensures)
+    store (s .args .out .now) (s .args .at) (s .args .temperature .ctn) (omega arith) then c .before .before .put-temperature-points .ensures
 
 pub put-temperature-spec : {M : Type 1} → statement M
 put-temperature-spec =

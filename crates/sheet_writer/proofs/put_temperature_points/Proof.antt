@@ -1,23 +1,23 @@
 -- Invariant: the points before are written. Assumes nothing.
-use Prim.Native.Nat.{_*_, _+_, _-_, _≤_, ℕ}
+use Prim.Native.Nat.{_*_, _+_, _-_, _≤_}
 use Rattle.figures.specs.Default.{noTemperature}
-use Rattle.sheet_writer.proofs.Pieces.{points-bytes-next, wrote-as, wrote-more, wrote-none}
+use Rattle.integers.proofs.Puts.{_then_, nothing, reads, size, upto}
+use Rattle.sheet_writer.proofs.Pieces.{points-bytes-next}
 use Rattle.sheet.specs.Write.{pointsBytes, temperaturePointBytes}
-use Rattle.sheet_writer.specs.Write.{Wrote}
-use mathlib.Core.Path.{_≡_, ap, refl}
+use Rattle.integers.specs.Bytes.{Put}
+use mathlib.Core.Path.{_≡_}
 use native.Mathlib.Omega.{arith}
-use borrow.Author.Needs.{needs}
 use Rattle.sheet_writer.proofs.put_temperature_points.Statement.{statement}
 use Rattle.sheet_writer.proofs.put_temperature_points.Tie as tie
 
 abbrev Inv-loop : tie.InvT-loop
-Inv-loop out₀ at n points i₀ out i = (Wrote out₀ out at (at + 24 * i) (pointsBytes noTemperature temperaturePointBytes points i)) × (i ≤ n)
+Inv-loop out₀ at n points i₀ out i = (Put (pointsBytes noTemperature temperaturePointBytes points i) out₀ at out (at + 24 * i)) × (i ≤ n)
 
 abbrev μ-loop : tie.MeasureT-loop
 μ-loop out₀ at n points i₀ out i = n - i
 
 loop-holds : tie.Need-loop-holds Inv-loop μ-loop
-loop-holds c = (wrote-none _ _ _ (omega arith), omega arith)
+loop-holds c = (nothing _ (omega arith) (omega arith), omega arith)
 
 mul-point : tie.Need-mul-point Inv-loop μ-loop
 mul-point c = omega arith
@@ -33,8 +33,7 @@ add-put-temperature-point c = omega arith
 
 put-temperature-point-requires : tie.Need-put-temperature-point-requires Inv-loop μ-loop
 put-temperature-point-requires c κs =
-    let w = c .before .before .before .loop .inv .0 .same in
-    omega arith
+    omega (arith, size (c .before .before .before .loop .inv .0))
 
 add-i : tie.Need-add-i Inv-loop μ-loop
 add-i c = omega arith
@@ -46,16 +45,16 @@ loop-again : tie.Need-loop-again Inv-loop μ-loop
 loop-again c =
     let l = c .before .before .before .before .before .before .loop in
     let a = c .before .before .before .before .before .before .before .before .args in
-    (wrote-as (wrote-more (l .inv .0) refl (omega arith) (c .before .before .put-temperature-point .ensures)) (omega arith) (points-bytes-next noTemperature temperaturePointBytes (a .t3) (l .i)), omega arith)
+    (reads (points-bytes-next noTemperature temperaturePointBytes (a .t3) (l .i)) (upto (omega arith) (l .inv .0 then (c .before .before .put-temperature-point .ensures))), omega arith)
 
 same-length : tie.Need-same-length Inv-loop μ-loop
-same-length c = search needs
+same-length c = size (c .before .loop .inv .0)
 
 returns : tie.Need-returns Inv-loop μ-loop
 returns c =
     let a = c .before .before .before .args in
     let e : c .before .loop .i ≡ a .n = omega arith in
-    wrote-as (c .before .loop .inv .0) (ap (λ (x : ℕ). a .at + 24 * x) e) (ap (pointsBytes noTemperature temperaturePointBytes (a .t3)) e)
+    rw e at (c .before .loop .inv .0)
 
 pub put-temperature-points-spec : {M : Type 1} → statement M
 put-temperature-points-spec =

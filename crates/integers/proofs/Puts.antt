@@ -1,0 +1,40 @@
+-- Texts put into a buffer, one after the other. Assumes nothing.
+use mathlib.Core.Path.{_≡_, refl, sym, ap, ap₂, _∙_}
+use mathlib.Core.List.{List, [], _∷_, _++_}
+use Prim.Native.Nat.{ℕ, suc, _+_, _≤_}
+use native.Mathlib.Nat.{add-zero}
+use native.Mathlib.Omega.{arith}
+use lib.ListN.{length, set, length-append}
+use lib.Seq.{sets, length-sets}
+use Rattle.integers.specs.Bytes.{Put}
+
+sets-append : (t u l : List ℕ) (i : ℕ) → sets l i (t ++ u) ≡ sets (sets l i t) (i + length t) u
+sets-append [] u l i = rw add-zero
+sets-append (b ∷ t) u l i =
+    let e : suc i + length t ≡ i + suc (length t) = omega arith in
+    rw (← e) (sets-append t u (set l i b) (suc i))
+
+module _ {t a b : List ℕ} {at m : ℕ} where
+  pub size : Put t a at b m → length b ≡ length a
+  size p = ap length (p .is) ∙ length-sets a at t
+
+  -- the same, the text or the place after it written otherwise
+  pub reads : {u : List ℕ} → t ≡ u → Put t a at b m → Put u a at b m
+  reads e p = rw e at p
+
+  pub upto : {n : ℕ} → m ≡ n → Put t a at b m → Put t a at b n
+  upto e p = rw e at p
+
+  pub joined : {u c : List ℕ} {m′ n : ℕ} → Put t a at b m → m ≡ m′ → Put u b m′ c n → Put (t ++ u) a at c n
+  joined {u} p e q = record {
+    is = q .is ∙ ap₂ (λ (l : List ℕ) (k : ℕ). sets l k u) (p .is) (sym e ∙ p .next) ∙ sym (sets-append t u a at);
+    next = simp length-append (omega (arith, p .next, q .next));
+    fits = q .fits;
+  }
+
+  infixr 40 _then_
+  pub _then_ : {u c : List ℕ} {n : ℕ} → Put t a at b m → Put u b m c n → Put (t ++ u) a at c n
+  p then q = joined p refl q
+
+pub nothing : (l : List ℕ) {at r : ℕ} → at ≡ r → at ≤ length l → Put [] l at l r
+nothing l e h = record { is = refl; next = omega arith; fits = omega arith }
