@@ -1,11 +1,12 @@
 -- The starred cases hold, by computation. Assumes nothing.
 use mathlib.Core.Path.{refl}
 use lib.Ieee.{toBits, ofBits}
+use Rattle.integers.specs.Bytes.{signedOf}
 use Rattle.arithmetic.specs.Round.{roundDiv, floorDiv}
 use Rattle.arithmetic.specs.Table.{between, interpolated}
 use Rattle.figures.specs.Default.{defaultSheet}
 use Rattle.figures.specs.Acceptable.{temperatures, linearities}
-use Rattle.sheet.specs.Bytes.{signedOf, figureAt, figureBytes}
+use Rattle.sheet.specs.Bytes.{figureAt, figureBytes}
 use Rattle.sheet.specs.Judge.{shortOf, wrongCount, beyond, notBelow, tooSteep, trailing, cellNumber, temperaturePointNumber, temperatureNumber, linearityPointNumber, linearityNumber, systemNumber, filterNumber, sectionsNumber}
 use Rattle.sheet.specs.Read.{cellAt, temperaturePointAt, linearityPointAt, temperatureAt, linearityAt, systemAt, filterAt, figuresOf, sheetNumber}
 use Rattle.sheet.specs.Write.{cellBytes, temperaturePointBytes, linearityPointBytes, temperatureBytes, linearityBytes, systemBytes, filterBytes, sheetBytes}

@@ -4,10 +4,11 @@ use mathlib.Core.List.{List, [], _∷_, _++_}
 use Prim.Native.Nat.{ℕ}
 use lib.IntN.{pos, negℤ}
 use lib.ListN.{length, take, drop, set}
+use Rattle.integers.specs.Bytes.{signedOf}
 use Rattle.figures.specs.Default.{defaultSheet, apart}
 use Rattle.figures.specs.Unused.{unusedZero}
 use Rattle.figures.proofs.Default.{default-representable, default-acceptable}
-use Rattle.sheet.specs.Bytes.{signedOf, figureAt, figureBytes}
+use Rattle.sheet.specs.Bytes.{figureAt, figureBytes}
 use Rattle.sheet.specs.Judge.{shortOf, wrongCount, beyond, notBelow, tooSteep, trailing, cellNumber, temperaturePointNumber, temperatureNumber, linearityPointNumber, linearityNumber, systemNumber, filterNumber, sectionsNumber}
 use Rattle.sheet.specs.Read.{cellAt, temperaturePointAt, linearityPointAt, temperatureAt, linearityAt, systemAt, filterAt, figuresOf, sheetNumber, readSheet}
 use Rattle.sheet.specs.Write.{cellBytes, temperaturePointBytes, linearityPointBytes, temperatureBytes, linearityBytes, systemBytes, filterBytes, sheetBytes}

@@ -13,8 +13,9 @@ use lib.Seq.{drop-drop, drop-cons, length-take-le, getD-drop}
 use mir.Syntax.{w64}
 use mir.Val.{SFits}
 use borrow.Author.Tests.{lt-ltb, le-ltb, le-leb}
+use Rattle.integers.specs.Bytes.{signedOf}
 use Rattle.integers.proofs.Words.{word-bytes, bytes-word}
-use Rattle.sheet.specs.Bytes.{wordOf, signedOf, countAt, figureAt, wordBytes, unsignedOf, figureBytes, Bytes}
+use Rattle.sheet.specs.Bytes.{wordOf, countAt, figureAt, wordBytes, unsignedOf, figureBytes, Bytes}
 
 abbrev power : ℕ → ℕ
 power zero = 1
@@ -26,7 +27,7 @@ word-lt (b ∷ l) h = omega (arith, h 0, word-lt l (λ i. h (suc i)))
 
 -- ---- two's complement, there and back
 
-signed-back : (u : ℕ) → u < 2 ^ 64 → unsignedOf (signedOf u) ≡ u
+signed-back : (u : ℕ) → u < 2 ^ 64 → unsignedOf (signedOf 64 u) ≡ u
 unfolding signedOf
 signed-back u h = by (ltb u (2 ^ 63)) refl
   where
@@ -38,7 +39,7 @@ unsigned-lt : (v : ℤ) → SFits w64 v → unsignedOf v < 2 ^ 64
 unsigned-lt (pos n) h = omega (arith, h .sfits)
 unsigned-lt (negsuc n) h = omega (arith, h .sfits)
 
-unsigned-back : (v : ℤ) → SFits w64 v → signedOf (unsignedOf v) ≡ v
+unsigned-back : (v : ℤ) → SFits w64 v → signedOf 64 (unsignedOf v) ≡ v
 unfolding signedOf
 unsigned-back (pos n) h =
     let l : n < 2 ^ 63 = h .sfits in
@@ -50,15 +51,15 @@ unsigned-back (negsuc n) h =
 
 -- ---- eight bytes
 
-eight-back : (l : List ℕ) → length l ≡ 8 → Bytes l → figureBytes (signedOf (wordOf l)) ≡ l
+eight-back : (l : List ℕ) → length l ≡ 8 → Bytes l → figureBytes (signedOf 64 (wordOf l)) ≡ l
 unfolding figureBytes
 eight-back l e h =
     let w : wordOf l < 2 ^ 64 = subst (λ (k : ℕ). wordOf l < power k) e (word-lt l h) in
     ap (wordBytes 8) (signed-back (wordOf l) w) ∙ subst (λ (k : ℕ). wordBytes k (wordOf l) ≡ l) e (bytes-word l h)
 
-figure-back : (v : ℤ) (rest : List ℕ) → SFits w64 v → signedOf (wordOf (take 8 (figureBytes v ++ rest))) ≡ v
+figure-back : (v : ℤ) (rest : List ℕ) → SFits w64 v → signedOf 64 (wordOf (take 8 (figureBytes v ++ rest))) ≡ v
 unfolding figureBytes
-figure-back v rest h = ap signedOf (word-bytes 8 (unsignedOf v) ∙ mod-eq-of-lt (unsigned-lt v h)) ∙ unsigned-back v h
+figure-back v rest h = ap (signedOf 64) (word-bytes 8 (unsignedOf v) ∙ mod-eq-of-lt (unsigned-lt v h)) ∙ unsigned-back v h
 
 pub figure-length : (v : ℤ) → length (figureBytes v) ≡ 8
 unfolding figureBytes
@@ -74,7 +75,7 @@ front-bytes (suc n) [] h i = h i
 front-bytes (suc n) (b ∷ l) h zero = h 0
 front-bytes (suc n) (b ∷ l) h (suc i) = front-bytes n l (λ j. h (suc j)) i
 
-there-is : (s : List ℕ) (p : ℕ) → p + 8 ≤ length s → figureAt s p ≡ signedOf (wordOf (take 8 (drop p s)))
+there-is : (s : List ℕ) (p : ℕ) → p + 8 ≤ length s → figureAt s p ≡ signedOf 64 (wordOf (take 8 (drop p s)))
 unfolding figureAt
 there-is s p h = simp (le-leb _ _ h)
 
@@ -101,7 +102,7 @@ pub cut : (s : List ℕ) (p q : ℕ) (v : ℤ) (rest : List ℕ) → q ≡ p + 8
 cut s p q v rest e h r =
     let l : length s - p ≡ 8 + length rest = sym (length-drop p s) ∙ ap length r ∙ length-append (figureBytes v) rest ∙ ap (λ (k : ℕ). k + length rest) (figure-length v) in
     record {
-      is = there-is s p (omega arith) ∙ ap (λ (t : List ℕ). signedOf (wordOf (take 8 t))) r ∙ figure-back v rest h;
+      is = there-is s p (omega arith) ∙ ap (λ (t : List ℕ). signedOf 64 (wordOf (take 8 t))) r ∙ figure-back v rest h;
       next = ap (λ (k : ℕ). drop k s) e ∙ sym (drop-drop 8 p s) ∙ ap (drop 8) r ∙ figure-drop v rest;
       there = omega arith;
     }

@@ -2,7 +2,8 @@
 ghost use mathlib.Core.Path.{_≡_};
 ghost use Prim.Native.Nat.{_+_, _≤_};
 ghost use lib.ListN.{length, take, drop};
-ghost use Rattle.sheet.specs.Bytes.{wordOf, signedOf, countAt, figureAt, unsignedOf};
+ghost use Rattle.integers.specs.Bytes.{signedOf};
+ghost use Rattle.sheet.specs.Bytes.{wordOf, countAt, figureAt, unsignedOf};
 ghost use Rattle.sheet.specs.Step.{countStep, figureStep};
 use crate::CountStep;
 use crate::FigureStep;
@@ -30,7 +31,7 @@ fn word_at(s: &[u8], at: usize) -> u64
 
 // The number whose two's complement the word is.
 fn signed(word: u64) -> i64
-    ensures { λ r. ⌜ r ≡ signedOf word ⌝ }
+    ensures { λ r. ⌜ r ≡ signedOf 64 word ⌝ }
 {
     if word < 9_223_372_036_854_775_808 {
         word as i64

@@ -1,6 +1,7 @@
 -- The figure where all its bytes are there, and 0 where they are not. Assumes nothing.
 use Prim.Native.Nat.{_+_, _<_, _≤_}
-use Rattle.sheet.specs.Bytes.{figureAt, signedOf}
+use Rattle.integers.specs.Bytes.{signedOf}
+use Rattle.sheet.specs.Bytes.{figureAt}
 use borrow.Author.Tests.{le-leb, lt-leb}
 use lib.ListN.{length}
 use mathlib.Core.Path.{_∙_, _≡_, ap, sym}
@@ -40,7 +41,7 @@ returns-3 c =
     let a = c .before .before .before .before .before .args in
     let h : a .at + 8 ≤ length (a .s .now) = omega arith in
     let b : toZ w64 (ofZ w64 (c .signed .result)) ≡ c .signed .result = search needs in
-    b ∙ c .signed .ensures ∙ ap signedOf (c .before .word-at .ensures) ∙ sym (simp (le-leb _ _ h))
+    b ∙ c .signed .ensures ∙ ap (signedOf 64) (c .before .word-at .ensures) ∙ sym (simp (le-leb _ _ h))
 
 pub figure-at-spec : {M : Type 1} → statement M
 figure-at-spec =

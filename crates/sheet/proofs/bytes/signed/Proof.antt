@@ -1,6 +1,5 @@
 -- Two's complement: from 2^63 on, a word stands for −1 less its complement. Assumes nothing.
 use Prim.Native.Nat.{_-_, _<_, _^_, suc, zero, ℕ}
-use Rattle.sheet.specs.Bytes.{signedOf}
 use borrow.Author.Tests.{le-ltb, lt-ltb}
 use lib.IntN.{_-ℤ_, negsuc, pos}
 use mathlib.Core.Path.{_≡_, ap, refl}
@@ -10,6 +9,7 @@ use mir.Val.{toZ}
 use native.Mathlib.Nat.{zero-add}
 use native.Mathlib.Omega.{arith}
 use borrow.Author.Needs.{needs}
+use Rattle.integers.specs.Bytes.{signedOf}
 use Rattle.sheet.proofs.bytes.signed.Statement.{statement}
 use Rattle.sheet.proofs.bytes.signed.Tie as tie
 
