@@ -3,6 +3,7 @@
 ghost use mathlib.Core.Path.{_≡_};
 ghost use mathlib.Core.List.{_++_};
 ghost use Prim.Native.Nat.{_+_, _≤_};
+ghost use lib.Bits.{bitOr};
 ghost use lib.ListN.{length, drop};
 ghost use Rattle.integers.specs.Bytes.{wordBytes};
 ghost use Rattle.modbus.specs.Checksum.{framed};
@@ -84,8 +85,14 @@ fn exception_code(number: u8, function: u8) -> u8
     }
 }
 
-// The reply to a frame that is turned down with a number. The top bit of the function is set, not
-// added: a function of 128 or more keeps its byte.
+// The function with its top bit set, not added: one of 128 or more keeps its byte.
+fn top_set(function: u8) -> u8
+    ensures { λ r. ⌜ r ≡ bitOr function 128 ⌝ }
+{
+    function | 0x80
+}
+
+// The reply to a frame that is turned down with a number.
 pub fn exception(frame: &[u8], reply: &mut [u8], number: u8) -> usize
     ensures { λ r. ⌜ Replied (exceptionReply (now (frame .entry)) (length (now (reply .entry))) number) (now (reply .entry)) (now (reply .exit)) r ⌝ }
 {
@@ -97,6 +104,6 @@ pub fn exception(frame: &[u8], reply: &mut [u8], number: u8) -> usize
     if code == 0 {
         return 0;
     }
-    let start = (frame[0] as u64) + ((function | 0x80) as u64) * 0x100;
+    let start = (frame[0] as u64) + (top_set(function) as u64) * 0x100;
     put(reply, start + (code as u64) * 0x1_0000, 3)
 }

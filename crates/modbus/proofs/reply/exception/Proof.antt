@@ -2,18 +2,17 @@
 use mathlib.Core.Path.{_≡_, refl, sym, _∙_, subst}
 use mathlib.Core.Bool.{Bool, true, false, cond}
 use mathlib.Core.List.{List, [], _∷_}
-use Prim.Native.Nat.{ℕ, _+_, _*_, _<_}
+use Prim.Native.Nat.{ℕ, _+_, _*_}
 use native.Mathlib.Omega.{arith}
 use borrow.Author.Tests.{eq-eqb, ne-eqb}
 use denote.Ref.{now}
-use lib.Bits.{bitOr, or-lt}
+use lib.Bits.{bitOr}
 use lib.Dec.{eqb}
 use lib.ListN.{length}
 use Rattle.modbus.specs.Frame.{stationOf, functionOf}
 use Rattle.modbus.specs.Reply.{silent, answer, exceptionCode, exceptionReply, Replied}
 use Rattle.modbus.proofs.Bytes.{Bytes}
 use Rattle.modbus.proofs.Replies.{enough, framed-enough, replied, unreplied}
-use Rattle.modbus.proofs.reply.exception.Tie as tie
 use borrow.Author.Needs.{needs}
 use Rattle.modbus.proofs.reply.exception.Statement.{statement}
 use Rattle.modbus.proofs.reply.exception.Tie as tie
@@ -47,9 +46,6 @@ module _ (s b : List ℕ) (number : ℕ) where
 speaks : (c : tie.Else1) → silent (now (c .before .before .before .before .args .frame)) (length (now (c .before .before .before .before .args .reply))) ≡ false
 speaks c = sym (c .before .is-silent .ensures) ∙ c .if1 .left
 
-top-set : (n : ℕ) → n < 256 → bitOr n 128 < 256
-top-set n h = or-lt 8 n 128 h (omega arith)
-
 is-silent-requires : tie.Need-is-silent-requires
 is-silent-requires c κs = search needs
 
@@ -71,14 +67,17 @@ shared-slice-read-start c = omega (arith, framed-enough _ _ (speaks (c .before .
 cast-start : tie.Need-cast-start
 cast-start c = omega (arith, c .shared-slice-known3 .given 0)
 
+top-set-requires : tie.Need-top-set-requires
+top-set-requires c κs = search needs
+
 cast-start-2 : tie.Need-cast-start-2
-cast-start-2 c = omega (arith, c .shared-slice-known3 .given 0, top-set (functionOf (now (c .before .before .before .before .before .before .before .before .args .frame))) (omega (arith, c .shared-slice-known3 .given 1)))
+cast-start-2 c = search needs
 
 mul-start : tie.Need-mul-start
-mul-start c = omega (arith, c .shared-slice-known3 .given 0, top-set (functionOf (now (c .before .before .before .before .before .before .before .before .args .frame))) (omega (arith, c .shared-slice-known3 .given 1)))
+mul-start c = search needs
 
 add-start : tie.Need-add-start
-add-start c = omega (arith, c .shared-slice-known3 .given 0, top-set (functionOf (now (c .before .before .before .before .before .before .before .before .args .frame))) (omega (arith, c .shared-slice-known3 .given 1)))
+add-start c = omega (arith, c .before .shared-slice-known3 .given 0)
 
 cast-put : tie.Need-cast-put
 cast-put c = search needs
@@ -87,27 +86,27 @@ mul-put : tie.Need-mul-put
 mul-put c = search needs
 
 add-put : tie.Need-add-put
-add-put c = omega (arith, c .before .shared-slice-known3 .given 0, top-set (functionOf (now (c .before .before .before .before .before .before .before .before .before .args .frame))) (omega (arith, c .before .shared-slice-known3 .given 1)))
+add-put c = omega (arith, c .before .before .shared-slice-known3 .given 0)
 
 put-requires : tie.Need-put-requires
-put-requires c κs = (omega arith, omega arith, omega (arith, enough _ _ (speaks (c .before .before .before .before .before))))
+put-requires c κs = (omega arith, omega arith, omega (arith, enough _ _ (speaks (c .before .before .before .before .before .before))))
 
 same-length : tie.Need-same-length
 same-length c = search needs
 
 returns-3 : tie.Need-returns-3
 returns-3 c =
-    let e = c .before .before .before .before .before .before .before .before in
+    let e = c .before .before .before .before .before .before .before .before .before in
     let a = e .before .before .before .before .args in
     let s = now (a .frame) in
     let b = now (a .reply) in
-    let x = c .before .before .before .before .before .before .exception-code in
+    let x = c .before .before .before .before .before .before .before .exception-code in
+    let t = c .before .before .before .before .top-set in
     let p = c .before .before .put in
-    let k = c .before .before .before .before .shared-slice-known3 .given in
-    let top = bitOr (functionOf s) 128 in
-    let bytes : Bytes (stationOf s ∷ top ∷ x .result ∷ []) = (omega (arith, k 0), (top-set (functionOf s) (omega (arith, k 1)), (omega arith, tt))) in
-    coded s b (a .number) (x .result) (x .ensures) (c .before .before .before .before .before .if2 .left) (p .last .0) (p .result)
-    (replied s b (stationOf s ∷ top ∷ x .result ∷ []) (p .last .0) 3 (stationOf s + top * 0x100 + x .result * 0x10000) (p .result) (speaks e) bytes refl (omega arith) (p .ensures))
+    let l = stationOf s ∷ bitOr (functionOf s) 128 ∷ x .result ∷ [] in
+    let bytes : Bytes l = (omega (arith, c .before .before .before .before .before .shared-slice-known3 .given 0), (omega (arith, t .ensures), (omega arith, tt))) in
+    coded s b (a .number) (x .result) (x .ensures) (c .before .before .before .before .before .before .if2 .left) (p .last .0) (p .result)
+    (replied s b l (p .last .0) 3 (stationOf s + t .result * 0x100 + x .result * 0x10000) (p .result) (speaks e) bytes refl (omega (arith, t .ensures)) (p .ensures))
 
 pub exception-spec : {M : Type 1} → statement M
 exception-spec =
@@ -120,6 +119,7 @@ exception-spec =
     returns-2
     shared-slice-read-start
     cast-start
+    top-set-requires
     cast-start-2
     mul-start
     add-start
