@@ -12,6 +12,7 @@ use prog.Wp.{Heap}
 use ghost.Atoms.{Atoms}
 use types.Kit.{Given}
 use denote.Builtin.{i64}
+use denote.Signed.{sint-tells}
 use denote.Laws.{Is, Tells}
 use denote.Struct.Laws as LL
 use Rattle.figures.specs.declared.Cell.{Cell}
@@ -154,12 +155,16 @@ mach-is d = refl
 pub mach-five : (d : Device) → mach d ≡ vstruct (parts (vstruct (five (d .setup .figures))) (d .setup .station) (mach-state (d .state)))
 mach-five d = mach-is d ∙ ap (λ (f : Val). vstruct (parts f (d .setup .station) (mach-state (d .state)))) (five-are (d .setup .figures))
 
--- with another SZ and another state
-abbrev pub rezero : Device → ℤ → State → Device
-rezero d z s = record { setup = record { figures = withZero (d .setup .figures) z; station = d .setup .station }; state = s }
+-- with another SZ
+abbrev pub rezero : Device → ℤ → Device
+rezero d z = record { setup = record { figures = withZero (d .setup .figures) z; station = d .setup .station }; state = d .state }
 
-pub rezero-is : (d : Device) (z : ℤ) (s : State) → mach (rezero d z s) ≡ vstruct (parts (zeroed (d .setup .figures) (number z)) (d .setup .station) (mach-state s))
-rezero-is d z s = mach-is (rezero d z s) ∙ ap (λ (f : Val). vstruct (parts f (d .setup .station) (mach-state s))) (figures-are (d .setup .figures) z)
+pub rezero-is : (d : Device) (z : ℤ) → mach (rezero d z) ≡ vstruct (parts (zeroed (d .setup .figures) (number z)) (d .setup .station) (mach-state (d .state)))
+rezero-is d z = mach-is (rezero d z) ∙ ap (λ (f : Val). vstruct (parts f (d .setup .station) (mach-state (d .state)))) (figures-are (d .setup .figures) z)
+
+-- with another state
+abbrev pub restate : Device → State → Device
+restate d s = record { setup = d .setup; state = s }
 
 module _ (d : Device) (is : IsDevice d) where
   pub figures-is : IsFigures (d .setup .figures)
@@ -178,10 +183,9 @@ module _ (d : Device) (is : IsDevice d) where
   unfolding mach mach-readings
   readings-is = LL.owed S.the-type S′.the-laws (d .state) _ (LL.owed D.the-type D′.the-laws d _ is .1 .0) .0
 
-  -- with another state
-  pub restated : (s : State) → IsState s → IsDevice (record { setup = d .setup; state = s })
+  pub restated : (s : State) {v : Val} → Is S.the-row s (v ∷ []) → IsDevice (restate d s)
   unfolding mach mach-state
-  restated s t = LL.owes D.the-type D′.the-laws (record { setup = d .setup; state = s }) (LL.owed D.the-type D′.the-laws d _ is .0, (t, tt))
+  restated s t = LL.owes D.the-type D′.the-laws (restate d s) (LL.owed D.the-type D′.the-laws d _ is .0, (known s _ t, tt))
 
   pub station-fits : d .setup .station < 2 ^ 8
   unfolding mach
@@ -194,10 +198,10 @@ module _ (d : Device) (is : IsDevice d) where
   pub sz-is : Is i64 (d .setup .figures .system .sz) (number (d .setup .figures .system .sz) ∷ [])
   sz-is = LL.owed Y.the-type Y′.the-laws (d .setup .figures .system) _ system-is .1 .1 .1 .1 .0
 
-  pub rezeroed : (z : ℤ) (s : State) → Is i64 z (number z ∷ []) → IsState s → IsDevice (rezero d z s)
-  unfolding mach mach-state
-  rezeroed z s z-is t =
+  pub rezeroed : (z : ℤ) {v : Val} → Is i64 z (v ∷ []) → IsDevice (rezero d z)
+  unfolding mach
+  rezeroed z z-is =
       let o = LL.owed F.the-type F′.the-laws (d .setup .figures) _ (LL.owed U.the-type U′.the-laws (d .setup) _ (LL.owed D.the-type D′.the-laws d _ is .0) .0) in
       let m = LL.owed Y.the-type Y′.the-laws (d .setup .figures .system) _ system-is in
-      let y = LL.owes Y.the-type Y′.the-laws (withZero (d .setup .figures) z .system) (m .0, (m .1 .0, (m .1 .1 .0, (m .1 .1 .1 .0, (z-is, tt))))) in
-      LL.owes D.the-type D′.the-laws (rezero d z s) (LL.owes U.the-type U′.the-laws (record { figures = withZero (d .setup .figures) z; station = d .setup .station }) (LL.owes F.the-type F′.the-laws (withZero (d .setup .figures) z) (o .0, (o .1 .0, (o .1 .1 .0, (y, (o .1 .1 .1 .1 .0, tt))))), ((refl, station-fits), tt)), (t, tt))
+      let y = LL.owes Y.the-type Y′.the-laws (withZero (d .setup .figures) z .system) (m .0, (m .1 .0, (m .1 .1 .0, (m .1 .1 .1 .0, (subst (Is i64 z) (sint-tells w64 z _ z-is) z-is, tt))))) in
+      LL.owes D.the-type D′.the-laws (rezero d z) (LL.owes U.the-type U′.the-laws (record { figures = withZero (d .setup .figures) z; station = d .setup .station }) (LL.owes F.the-type F′.the-laws (withZero (d .setup .figures) z) (o .0, (o .1 .0, (o .1 .1 .0, (y, (o .1 .1 .1 .1 .0, tt))))), ((refl, station-fits), tt)), (LL.owed D.the-type D′.the-laws d _ is .1 .0, tt))

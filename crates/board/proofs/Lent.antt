@@ -1,23 +1,52 @@
--- What the calls of `converter_frame` ask that are lent the frame, the reply or the record, from what the walk has of these. Assumes `Given`.
+-- The functions that `converter_frame` calls and lends the frame, the reply or the record to, and what each asks, from what the walk has of these. Assumes `Given`.
 use denote.Enum.Laws as EL
 use denote.Struct.Laws as LL
 use Rattle.modbus.specs.declared.frame.Frame.{Frame}
 use Rattle.modbus.proofs.frame.Frame as R
 use Rattle.modbus.proofs.frame.Frame.Laws as R′
-use Rattle.modbus.proofs.frame.judge as judge
+use Rattle.modbus.proofs.frame.judge as judge-of
+use Rattle.modbus.proofs.frame.judge.Symbol as judge-def
+use Rattle.modbus.proofs.frame.judge.Met as judge-thm
 use Rattle.state.proofs.State as S
 use Rattle.state.proofs.State.Laws as S′
 use Rattle.converter.specs.Reached.{Reached}
 use Rattle.converter.specs.declared.Device.{Device}
 use Rattle.converter.proofs.Device as D
-use Rattle.converter.proofs.acknowledge as acknowledge
-use Rattle.converter.proofs.answer as answer
-use Rattle.converter.proofs.refuse as refuse
-use Rattle.board.proofs.Walk.{refl, ℕ, _<_, _^_, [], _∷_, List, length, URA, named, w8, w64, Val, vint, vptr, SProp, ent, GName, Lft, Share, ftrue, flft, fobs, fbor, Memory, Routine, Heap, Atoms, Fun, Given, Item, ‵, _⊛_, ⋆, _$_, _∵_, !, qed, move, drop, split, join, fjoin, fjoin3, feqI, frame, done, Body, Is, mem, uint-makes, sint-makes, u8, usize, i64, RefT, sliceVal, MutSlice, ShrSlice, owned, nothing, Bound, tripleOf, says}
+use Rattle.converter.proofs.bus.Answered as B
+use Rattle.converter.proofs.bus.Answered.Laws as B′
+use Rattle.converter.proofs.acknowledge as acknowledge-of
+use Rattle.converter.proofs.acknowledge.Symbol as acknowledge-def
+use Rattle.converter.proofs.acknowledge.Met as acknowledge-thm
+use Rattle.converter.proofs.answer as answer-of
+use Rattle.converter.proofs.answer.Symbol as answer-def
+use Rattle.converter.proofs.answer.Met as answer-thm
+use Rattle.converter.proofs.refuse as refuse-of
+use Rattle.converter.proofs.refuse.Symbol as refuse-def
+use Rattle.converter.proofs.refuse.Met as refuse-thm
+use Rattle.board.proofs.Walk.{refl, sym, ap, subst, ℕ, _<_, _^_, [], _∷_, List, length, URA, named, w8, w64, Val, vint, vptr, SProp, ent, GName, Lft, Share, ftrue, flft, fobs, fbor, Memory, Routine, Heap, Atoms, Fun, Given, Item, ‵, _⊛_, ⋆, _$_, _∵_, !, qed, move, drop, split, join, fjoin, fjoin3, feqI, frame, done, Body, Is, mem, uint-makes, sint-makes, u8, usize, i64, RefT, sliceVal, MutSlice, ShrSlice, owned, nothing, Bound, says, only, tyUnit, T, hasTy, WT}
 use Rattle.board.proofs.Kept.{mach-state, IsDevice, number, state-is, sz-is}
-use Rattle.board.proofs.obey as obey
+use Rattle.board.proofs.Call.{Callee, triple}
+use Rattle.board.proofs.obey as obey-of
+use Rattle.board.proofs.obey.Symbol as obey-def
+use Rattle.board.proofs.obey.Met as obey-thm
 
-abbrev slice : RefT (List ℕ) → Val
+abbrev pub judge : Callee
+judge = record { name = judge-def.name; routine = judge-def.routine; ended = judge-of.ended; clauses = judge-of.clauses; met = judge-thm.met; result = R′.mir; typed = λ 𝓤 H A W κs r v is. EL.lawful R.the-type R′.the-laws 𝓤 H A W tt .typed r _ is .0 }
+
+abbrev pub answer : Callee
+answer = record { name = answer-def.name; routine = answer-def.routine; ended = answer-of.ended; clauses = answer-of.clauses; met = answer-thm.met; result = B′.mir; typed = λ 𝓤 H A W κs r v is. LL.lawful B.the-type B′.the-laws 𝓤 H A W .typed r _ is .0 }
+
+abbrev pub acknowledge : Callee
+acknowledge = record { name = acknowledge-def.name; routine = acknowledge-def.routine; ended = acknowledge-of.ended; clauses = acknowledge-of.clauses; met = acknowledge-thm.met; result = B′.mir; typed = λ 𝓤 H A W κs r v is. LL.lawful B.the-type B′.the-laws 𝓤 H A W .typed r _ is .0 }
+
+abbrev pub refuse : Callee
+refuse = record { name = refuse-def.name; routine = refuse-def.routine; ended = refuse-of.ended; clauses = refuse-of.clauses; met = refuse-thm.met; result = B′.mir; typed = λ 𝓤 H A W κs r v is. LL.lawful B.the-type B′.the-laws 𝓤 H A W .typed r _ is .0 }
+
+abbrev pub obey : Callee
+obey = record { name = obey-def.name; routine = obey-def.routine; ended = obey-of.ended; clauses = obey-of.clauses; met = obey-thm.met; result = tyUnit; typed = λ 𝓤 H A W κs r v is. subst (λ (u : Val). T (hasTy tyUnit u) × WT u) (sym (ap only is)) (tt, tt) }
+
+-- the machine value of a slice of bytes
+abbrev pub slice : RefT (List ℕ) → Val
 slice x = sliceVal (x .ptr) (length (x .now))
 
 -- the frame, lent for a lifetime
@@ -25,17 +54,17 @@ abbrev pub bytes : {M : Type 1} (𝓤 : URA M) → Lft → RefT (List ℕ) → I
 bytes 𝓤 κ x = ‵ (ShrSlice (named 0) κ u8 .own x (slice x ∷ []))
 
 module _ {M : Type 1} (𝓤 : URA M) (H : Heap 𝓤) (A : Atoms 𝓤) (κ : Lft) (q : Share) (x : RefT (List ℕ)) (room station : ℕ) where
-  abbrev pub to-judge : Bound 𝓤 H A judge.signature
+  abbrev pub to-judge : Bound 𝓤 H A (judge .ended .signature)
   to-judge = ((κ, tt), (q, tt), tt, (x, (room, (station, tt))), (slice x ∷ [], (vint w64 room ∷ [], (vint w8 station ∷ [], tt))))
 
 module _ {M : Type 1} (𝓤 : URA M) (H : Heap 𝓤) (A : Atoms 𝓤) (W : Given 𝓤 H A) (mem-at : Memory → SProp 𝓤) (run : Routine → Fun 𝓤) (κ : Lft) (q : Share) (x : RefT (List ℕ)) (room station : ℕ) where
-  pub judge-asks : room < 2 ^ 64 → station < 2 ^ 8 → ent 𝓤 (⋆ 𝓤 H A (‵ (flft κ q) ∷ bytes 𝓤 κ x ∷ [])) (tripleOf 𝓤 H A judge.signature (judge.spec 𝓤 H A mem-at run) .pre (to-judge 𝓤 H A κ q x room station, tt))
+  pub judge-asks : room < 2 ^ 64 → station < 2 ^ 8 → ent 𝓤 (⋆ 𝓤 H A (‵ (flft κ q) ∷ bytes 𝓤 κ x ∷ [])) (triple 𝓤 H A mem-at run judge .pre (to-judge 𝓤 H A κ q x room station, tt))
   judge-asks room-fits fits =
       qed W (‵ (flft κ q) ∷ bytes 𝓤 κ x ∷ []) ∵ nothing ! $ move ! (1 ∷ 0 ∷ []) $ join ! $
       nothing ! $ owned ! u8 (Is u8) (uint-makes 𝓤 H A W w8) station _ (refl, fits) $ fjoin ! $ owned ! usize (Is usize) (uint-makes 𝓤 H A W w64) room _ (refl, room-fits) $ fjoin ! $ move ! (2 ∷ 0 ∷ []) $ fjoin ! $ move ! (1 ∷ 0 ∷ []) $ join ! $ frame ! $ done !
 
 module _ {M : Type 1} (𝓤 : URA M) (H : Heap 𝓤) (A : Atoms 𝓤) (κ₁ κ₂ : Lft) (q₁ q₂ : Share) (xf xr : RefT (List ℕ)) (h : Device) (a : Frame) (va : Val) where
-  abbrev pub to-answer : Bound 𝓤 H A answer.signature
+  abbrev pub to-answer : Bound 𝓤 H A (answer .ended .signature)
   to-answer =
       ((κ₁, (κ₂, tt)), (q₁, (q₂, tt)), tt, (h .state, (h .setup .figures .system .sz, (a, (xf, (xr, tt))))), (mach-state (h .state) ∷ [], (number (h .setup .figures .system .sz) ∷ [], (va ∷ [], (slice xf ∷ [], (slice xr ∷ [], tt))))))
 
@@ -44,7 +73,7 @@ abbrev lent : {M : Type 1} (𝓤 : URA M) (H : Heap 𝓤) (A : Atoms 𝓤) (W : 
 lent 𝓤 H A W κ₁ κ₂ q₁ q₂ xf xr = ((‵ (flft κ₁ q₁) ⊛ ‵ ftrue) ⊛ (‵ (flft κ₂ q₂) ⊛ ‵ ftrue)) ∷ bytes 𝓤 κ₁ xf ∷ ‵ (MutSlice (named 1) κ₂ u8 .own xr (slice xr ∷ [])) ∷ []
 
 module _ {M : Type 1} (𝓤 : URA M) (H : Heap 𝓤) (A : Atoms 𝓤) (W : Given 𝓤 H A) (mem-at : Memory → SProp 𝓤) (run : Routine → Fun 𝓤) (κ₁ κ₂ : Lft) (q₁ q₂ : Share) (xf xr : RefT (List ℕ)) (h : Device) (a : Frame) (va : Val) where
-  pub answer-asks : Reached h → IsDevice h → Is R.the-row a (va ∷ []) → ent 𝓤 (⋆ 𝓤 H A (lent 𝓤 H A W κ₁ κ₂ q₁ q₂ xf xr)) (tripleOf 𝓤 H A answer.signature (answer.spec 𝓤 H A mem-at run) .pre (to-answer 𝓤 H A κ₁ κ₂ q₁ q₂ xf xr h a va, tt))
+  pub answer-asks : Reached h → IsDevice h → Is R.the-row a (va ∷ []) → ent 𝓤 (⋆ 𝓤 H A (lent 𝓤 H A W κ₁ κ₂ q₁ q₂ xf xr)) (triple 𝓤 H A mem-at run answer .pre (to-answer 𝓤 H A κ₁ κ₂ q₁ q₂ xf xr h a va, tt))
   answer-asks reached was a-is =
       qed W (lent 𝓤 H A W κ₁ κ₂ q₁ q₂ xf xr) ∵ split ! $ split ! $ move ! (1 ∷ []) $ drop ! $ join ! $
       says ! (record { device = h; reached = reached; state-is = refl; sz-is = refl }) $ frame ! $ nothing ! $ move ! (2 ∷ 0 ∷ []) $ fjoin ! $ move ! (1 ∷ 0 ∷ []) $ fjoin ! $
@@ -52,33 +81,33 @@ module _ {M : Type 1} (𝓤 : URA M) (H : Heap 𝓤) (A : Atoms 𝓤) (W : Given
       owned ! S.the-row (Is S.the-row) (LL.makes S.the-type S′.the-plain 𝓤 H A) (h .state) _ (state-is h was) $ fjoin ! $ done !
 
 module _ {M : Type 1} (𝓤 : URA M) (H : Heap 𝓤) (A : Atoms 𝓤) (κ₁ κ₂ : Lft) (q₁ q₂ : Share) (xf xr : RefT (List ℕ)) where
-  abbrev pub to-acknowledge : Bound 𝓤 H A acknowledge.signature
+  abbrev pub to-acknowledge : Bound 𝓤 H A (acknowledge .ended .signature)
   to-acknowledge = ((κ₁, (κ₂, tt)), (q₁, (q₂, tt)), tt, (xf, (xr, tt)), (slice xf ∷ [], (slice xr ∷ [], tt)))
 
-  abbrev pub to-refuse : Frame → Val → Bound 𝓤 H A refuse.signature
+  abbrev pub to-refuse : Frame → Val → Bound 𝓤 H A (refuse .ended .signature)
   to-refuse a va = ((κ₁, (κ₂, tt)), (q₁, (q₂, tt)), tt, (a, (xf, (xr, tt))), (va ∷ [], (slice xf ∷ [], (slice xr ∷ [], tt))))
 
 module _ {M : Type 1} (𝓤 : URA M) (H : Heap 𝓤) (A : Atoms 𝓤) (W : Given 𝓤 H A) (mem-at : Memory → SProp 𝓤) (run : Routine → Fun 𝓤) (κ₁ κ₂ : Lft) (q₁ q₂ : Share) (xf xr : RefT (List ℕ)) where
-  pub acknowledge-asks : ent 𝓤 (⋆ 𝓤 H A (lent 𝓤 H A W κ₁ κ₂ q₁ q₂ xf xr)) (tripleOf 𝓤 H A acknowledge.signature (acknowledge.spec 𝓤 H A mem-at run) .pre (to-acknowledge 𝓤 H A κ₁ κ₂ q₁ q₂ xf xr, tt))
+  pub acknowledge-asks : ent 𝓤 (⋆ 𝓤 H A (lent 𝓤 H A W κ₁ κ₂ q₁ q₂ xf xr)) (triple 𝓤 H A mem-at run acknowledge .pre (to-acknowledge 𝓤 H A κ₁ κ₂ q₁ q₂ xf xr, tt))
   acknowledge-asks =
       qed W (lent 𝓤 H A W κ₁ κ₂ q₁ q₂ xf xr) ∵ split ! $ split ! $ move ! (1 ∷ []) $ drop ! $ join ! $
       nothing ! $ move ! (3 ∷ 0 ∷ []) $ fjoin ! $ move ! (2 ∷ 0 ∷ []) $ fjoin ! $ move ! (1 ∷ 0 ∷ []) $ join ! $ frame ! $ done !
 
-  pub refuse-asks : (a : Frame) (va : Val) → Is R.the-row a (va ∷ []) → ent 𝓤 (⋆ 𝓤 H A (lent 𝓤 H A W κ₁ κ₂ q₁ q₂ xf xr)) (tripleOf 𝓤 H A refuse.signature (refuse.spec 𝓤 H A mem-at run) .pre (to-refuse 𝓤 H A κ₁ κ₂ q₁ q₂ xf xr a va, tt))
+  pub refuse-asks : (a : Frame) (va : Val) → Is R.the-row a (va ∷ []) → ent 𝓤 (⋆ 𝓤 H A (lent 𝓤 H A W κ₁ κ₂ q₁ q₂ xf xr)) (triple 𝓤 H A mem-at run refuse .pre (to-refuse 𝓤 H A κ₁ κ₂ q₁ q₂ xf xr a va, tt))
   refuse-asks a va a-is =
       qed W (lent 𝓤 H A W κ₁ κ₂ q₁ q₂ xf xr) ∵ split ! $ split ! $ move ! (1 ∷ []) $ drop ! $ join ! $
       nothing ! $ move ! (3 ∷ 0 ∷ []) $ fjoin ! $ move ! (2 ∷ 0 ∷ []) $ fjoin ! $
       owned ! R.the-row (Is R.the-row) (EL.makes R.the-type R′.the-plain 𝓤 H A) a (va ∷ []) a-is $ fjoin ! $ move ! (1 ∷ 0 ∷ []) $ join ! $ frame ! $ done !
 
 module _ {M : Type 1} (𝓤 : URA M) (H : Heap 𝓤) (A : Atoms 𝓤) (κ : Lft) (q : Share) (b o : ℕ) (γ : GName) (h : Device) (a : Frame) (va : Val) where
-  abbrev pub to-obey : Bound 𝓤 H A obey.signature
+  abbrev pub to-obey : Bound 𝓤 H A (obey .ended .signature)
   to-obey = ((κ, tt), (q, tt), tt, (record { ptr = (b, o); name = γ; now = h }, (a, tt)), (vptr b o ∷ [], (va ∷ [], tt)))
 
 module _ {M : Type 1} (𝓤 : URA M) (H : Heap 𝓤) (A : Atoms 𝓤) (W : Given 𝓤 H A) (mem-at : Memory → SProp 𝓤) (run : Routine → Fun 𝓤) (κ : Lft) (q : Share) (b o : ℕ) (γ : GName) (h : Device) (a : Frame) (va : Val) where
   abbrev record-lent : List (Item 𝓤)
   record-lent = ‵ (fobs γ (D.the-row .coded .code h)) ∷ ‵ (fbor κ (Body (mem D.the-row) b o γ)) ∷ ‵ (flft κ q) ∷ []
 
-  pub obey-asks : Is R.the-row a (va ∷ []) → ent 𝓤 (⋆ 𝓤 H A record-lent) (tripleOf 𝓤 H A obey.signature (obey.spec 𝓤 H A mem-at run) .pre (to-obey 𝓤 H A κ q b o γ h a va, tt))
+  pub obey-asks : Is R.the-row a (va ∷ []) → ent 𝓤 (⋆ 𝓤 H A record-lent) (triple 𝓤 H A mem-at run obey .pre (to-obey 𝓤 H A κ q b o γ h a va, tt))
   obey-asks a-is =
       qed W record-lent ∵ nothing ! $ owned ! R.the-row (Is R.the-row) (EL.makes R.the-type R′.the-plain 𝓤 H A) a (va ∷ []) a-is $ fjoin ! $ move ! (1 ∷ 2 ∷ []) $ feqI ! (List Val) (vptr b o ∷ []) (vptr b o ∷ []) refl $ fjoin3 ! $ fjoin ! $
       nothing ! $ move ! (2 ∷ 0 ∷ []) $ join ! $ join ! $ frame ! $ done !

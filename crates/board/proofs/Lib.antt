@@ -3,6 +3,7 @@ mod Kept
 mod Record
 mod Outcome
 mod Call
+mod Callees
 mod Lent
 mod Locals
 mod Walk

@@ -9,11 +9,9 @@ use Rattle.converter.specs.Reached.{Reached}
 use Rattle.converter.specs.declared.Device.{Device}
 use Rattle.converter.proofs.Device as D
 use Rattle.converter.proofs.Device.Laws as D′
-use Rattle.converter.proofs.Device.report as g
-use Rattle.converter.proofs.Device.report.Symbol as g-def
-use Rattle.converter.proofs.Device.report.Met as g-thm
-use Rattle.board.proofs.Walk.{_≡_, refl, ℕ, [], _∷_, List, URA, named, Val, vptr, emp, SProp, ent, sep, id⊢, GName, Lft, Share, ftrue, flft, fres, fshr-bor, Memory, Routine, Heap, Calls, Loops, WpFn, Tables, Atoms, Fun, factI, givenOf, tables, tablesOf, Given, ‵, _⊛_, _$_, _∵_, !, qed, by, move, keep, drop, split, join, fsplit, fsplit3, fjoin, fjoin3, feqI, suffices, frame, done, look, look-raw, init, stop, hop, from, load, of-opd, and-then, no-more, assigns, land, returns, enter, alloc1, alloc0, params1, pass1, pass0, FmC, fmOf, WpFn-mono, owns, Is, shows, partAt, RefT, ShrRef, ptr-vals, shr-tells, plain, looks, shuts, owned, peeks, nothing, spelt, Contract, Triple, onEntry, Meets, tripleOf, entered, cited, says, needs, Stays, stay-none-ref, walkOf, AllGo, goes-none-ref, Walks, ends-at, walked, walk-meets, yes}
-use Rattle.board.proofs.Call.{calls-plain}
+use Rattle.board.proofs.Walk.{_≡_, refl, ℕ, [], _∷_, List, URA, named, Val, vptr, emp, SProp, ent, sep, id⊢, GName, Lft, Share, ftrue, flft, fres, fshr-bor, Memory, Routine, Heap, Calls, Loops, WpFn, Tables, Atoms, Fun, factI, givenOf, tables, tablesOf, Given, ‵, _⊛_, _$_, _∵_, !, qed, by, move, keep, drop, split, join, fsplit, fsplit3, fjoin, fjoin3, feqI, suffices, frame, done, look, look-raw, init, stop, hop, from, load, of-opd, no-more, assigns, returns, enter, alloc1, alloc0, params1, pass1, pass0, FmC, fmOf, WpFn-mono, owns, Is, shows, partAt, RefT, ShrRef, ptr-vals, shr-tells, plain, looks, shuts, owned, peeks, nothing, spelt, onEntry, Meets, tripleOf, entered, says, needs, Stays, stay-none-ref, walkOf, AllGo, goes-none-ref, Walks, ends-at, walked, walk-meets, yes}
+use Rattle.board.proofs.Call.{AllKnown, all-known, calls-plain, local}
+use Rattle.board.proofs.Callees.{report}
 use Rattle.board.proofs.Locals.{frees-all, holding}
 use Rattle.board.proofs.Kept.{mach, tells, typed}
 use Rattle.board.proofs.converter_report.Key.{name as #board·converter-report}
@@ -24,10 +22,6 @@ use Rattle.board.proofs.converter_report.Code as code
 -- at exit: the reference is owned, as it was passed
 abbrev stayed : Stays (f.ended .signature .params) (f.ended .kept)
 stayed = (stay-none-ref (0 ∷ []) tt (plain (λ _. D.the-row)) yes, tt)
-
--- the contract that the proof cites
-abbrev G : {M : Type 1} (𝓤 : URA M) (H : Heap 𝓤) (A : Atoms 𝓤) (mem : Memory → SProp 𝓤) (run : Routine → Fun 𝓤) → Contract 𝓤
-G 𝓤 H A mem run = tripleOf 𝓤 H A g.signature (g.spec 𝓤 H A mem run)
 
 module _ {M : Type 1} (𝓤 : URA M) (H : Heap 𝓤) (A : Atoms 𝓤) (W : Given 𝓤 H A) (at-mem : Memory → SProp 𝓤) (run : Routine → Fun 𝓤) (κ : Lft) (q : Share) (b o : ℕ) (γ : GName) (h : Device) (reached : Reached h) where
   abbrev x : RefT Device × Unit {0}
@@ -49,7 +43,7 @@ module _ {M : Type 1} (𝓤 : URA M) (H : Heap 𝓤) (A : Atoms 𝓤) (W : Given
       nothing ! $ move ! (1 ∷ 0 ∷ []) $ join ! $ frame ! $ feqI ! (List Val) (vptr b o ∷ []) (vptr b o ∷ []) refl $ fjoin3 ! $ nothing ! $ move ! (1 ∷ 0 ∷ []) $ fjoin ! $ frame ! $
       owned ! S.the-row (Is S.the-row) (LL.makes S.the-type S′.the-plain 𝓤 H A) r _ is $ done !
 
-  module _ (C : Calls 𝓤 H) (Λ : Loops 𝓤 H) (fm : FmC 𝓤 H (W .laws) C) (known : Triple 𝓤 (C g-def.name) (G 𝓤 H A at-mem run)) where
+  module _ (C : Calls 𝓤 H) (Λ : Loops 𝓤 H) (fm : FmC 𝓤 H (W .laws) C) (known : AllKnown 𝓤 H A at-mem run C (report .callee ∷ [])) where
     walk : ent 𝓤 (onEntry 𝓤 H A f.signature (κ, tt) (q, tt) x at) (WpFn 𝓤 H C Λ code.function (vptr b o ∷ []) Post)
     walk =
         qed W ((‵ (flft κ q) ⊛ ‵ ftrue) ∷ ‵ (owns (ShrRef (named 0) κ D.the-row ∷ []) x at) ∷ []) ∵ enter ! C Λ code.function (vptr b o ∷ []) _ $
@@ -61,21 +55,19 @@ module _ {M : Type 1} (𝓤 : URA M) (H : Heap 𝓤) (A : Atoms 𝓤) (W : Given
         assigns ! (of-opd ! (load ! (from ! (hop ! (look ! 9 refl) (stop !))) (look-raw ! 0 refl))) (from ! (stop !)) (init ! 7 refl (typed 𝓤 H A W h was)) $
         shuts ! tt D.the-row q′ h (mach h ∷ []) b o $
         -- [the token; the borrow; true; res; true; _2; …; _1; …; room for _0; …]
-        calls-plain ! fm g.ended (g.clauses 𝓤 H A at-mem run) known (tt, tt, tt, (h, tt), (mach h ∷ [], tt)) tt (id⊢ 𝓤 _) (LL.makes D.the-type D′.the-plain 𝓤 H A, tt) (was, tt) (factI 𝓤 _ (emp 𝓤) reached) Said (λ r e. id⊢ 𝓤 _)
-        (and-then ! (load ! (from ! (stop !)) (look ! 6 refl)) (no-more !)) (λ v r e is.
-        land ! (from ! (stop !)) (init ! 9 refl (LL.lawful S.the-type S′.the-laws 𝓤 H A W .typed r _ is .0)) $
+        calls-plain ! fm report (known .0) (tt, tt, tt, (h, tt), (mach h ∷ [], tt)) tt (id⊢ 𝓤 _) (was, tt) (factI 𝓤 _ (emp 𝓤) reached) Said (λ r e. id⊢ 𝓤 _) (local ! 6 refl (no-more !)) 9 refl refl (λ v r e is.
         returns ! (look ! 9 refl) $ frees-all ! 5 (holding _ _ _ ∷ holding _ _ _ ∷ holding _ _ _ ∷ []) refl $
         keep ! (0 ∷ 3 ∷ 1 ∷ []) $ by ! (exits r v is e)))))))
 
 module _ {M : Type 1} (𝓤 : URA M) (H : Heap 𝓤) (A : Atoms 𝓤) (W : Given 𝓤 H A) (mem : Memory → SProp 𝓤) (run : Routine → Fun 𝓤) where
-  walks : (C : Calls 𝓤 H) (Λ : Loops 𝓤 H) → FmC 𝓤 H (W .laws) C → Triple 𝓤 (C g-def.name) (G 𝓤 H A mem run) → Walks 𝓤 H A f.ended stayed (WpFn 𝓤 H C Λ code.function) (f.clauses 𝓤 H A mem run)
+  walks : (C : Calls 𝓤 H) (Λ : Loops 𝓤 H) → FmC 𝓤 H (W .laws) C → AllKnown 𝓤 H A mem run C (report .callee ∷ []) → Walks 𝓤 H A f.ended stayed (WpFn 𝓤 H C Λ code.function) (f.clauses 𝓤 H A mem run)
   walks C Λ fm known = walked 𝓤 H A f.ended stayed (f.clauses 𝓤 H A mem run) (WpFn 𝓤 H C Λ code.function) (λ κs. (ptr-vals, tt)) (λ κs. (shr-tells (named 0) (κs .0) D.the-row, tt))
       (λ κs qs bounds a _ _. needs 𝓤 (Reached (a .0 .now)) _ (λ reached. walk 𝓤 H A W mem run (κs .0) (qs .0) (a .0 .ptr .0) (a .0 .ptr .1) (a .0 .name) (a .0 .now) reached C Λ fm known))
 
   goes : AllGo 𝓤 H A W 1 (f.signature .params) (f.ended .kept) stayed
   goes = (goes-none-ref 𝓤 H A W 1 (0 ∷ []) tt (plain (λ _. D.the-row)) yes, tt)
 
-meets : {M : Type 1} (𝓤 : URA M) (H : Heap 𝓤) (A : Atoms 𝓤) → Given 𝓤 H A → (mem : Memory → SProp 𝓤) (run : Routine → Fun 𝓤) (𝓣 : Tables 𝓤 H) → Triple 𝓤 (𝓣 .C g-def.name) (G 𝓤 H A mem run)
+meets : {M : Type 1} (𝓤 : URA M) (H : Heap 𝓤) (A : Atoms 𝓤) → Given 𝓤 H A → (mem : Memory → SProp 𝓤) (run : Routine → Fun 𝓤) (𝓣 : Tables 𝓤 H) → AllKnown 𝓤 H A mem run (𝓣 .C) (report .callee ∷ [])
     → Meets 𝓤 H A f.signature (WpFn 𝓤 H (𝓣 .C) (𝓣 .Λ) code.function) (f.spec 𝓤 H A mem run)
 meets 𝓤 H A W mem run 𝓣 known = walk-meets 𝓤 H A f.ended stayed W (goes 𝓤 H A W mem run) (f.clauses 𝓤 H A mem run) (WpFn 𝓤 H (𝓣 .C) (𝓣 .Λ) code.function) (WpFn-mono 𝓤 H (W .laws) 𝓣 code.function) (walks 𝓤 H A W mem run (𝓣 .C) (𝓣 .Λ) (fmOf 𝓤 H (W .laws) 𝓣) known)
 
@@ -85,4 +77,4 @@ converter-report-spec 𝓤 H 𝓜 𝓖 𝓡 =
     entered 𝓤 H (tripleOf 𝓤 H (𝓖 .A) f.signature (f.spec 𝓤 H (𝓖 .A) (𝓜 .mem) (𝓡 .run)))
     (tables 𝓤 H 𝓜 𝓡 code.env .C) (tables 𝓤 H 𝓜 𝓡 code.env .Λ) #board·converter-report code.function (code.unfolded 𝓤 H 𝓜 𝓡)
     (meets 𝓤 H (𝓖 .A) (givenOf 𝓤 H 𝓜 𝓖) (𝓜 .mem) (𝓡 .run) (tablesOf 𝓤 H 𝓜 (tables 𝓤 H 𝓜 𝓡 code.env))
-    (cited 𝓤 H (G 𝓤 H (𝓖 .A) (𝓜 .mem) (𝓡 .run)) 𝓜 𝓡 code.env g-def.name g-def.routine code.calls-converter·Device·report (g-thm.met 𝓤 H 𝓜 𝓖 𝓡)))
+    (all-known 𝓤 H 𝓜 𝓖 𝓡 code.env (report .callee ∷ []) (code.calls-converter·Device·report, tt)))

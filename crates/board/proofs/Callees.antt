@@ -1,0 +1,150 @@
+-- The functions of plain values that the walks call. Assumes nothing.
+use mir.Syntax.{w8, w64, tyInt, tyBool}
+use denote.Plain.{uint-makes, bool-lawful}
+use denote.Signed.{sint-makes, sint-lawful}
+use denote.Enum.Laws as EL
+use denote.Struct.Laws as LL
+use Rattle.modbus.proofs.frame.Frame as R
+use Rattle.modbus.proofs.frame.Frame.Laws as R′
+use Rattle.figures.proofs.Cell as X
+use Rattle.figures.proofs.Cell.Laws as X′
+use Rattle.figures.proofs.Temperature as T
+use Rattle.figures.proofs.Temperature.Laws as T′
+use Rattle.figures.proofs.Linearity as L
+use Rattle.figures.proofs.Linearity.Laws as L′
+use Rattle.figures.proofs.System as Y
+use Rattle.figures.proofs.System.Laws as Y′
+use Rattle.figures.proofs.Filter as I
+use Rattle.figures.proofs.Filter.Laws as I′
+use Rattle.compensation.proofs.steps.Input as P
+use Rattle.compensation.proofs.steps.Input.Laws as P′
+use Rattle.compensation.proofs.steps.CellValues as K
+use Rattle.compensation.proofs.steps.CellValues.Laws as K′
+use Rattle.compensation.proofs.steps.Values as E
+use Rattle.compensation.proofs.steps.Values.Laws as E′
+use Rattle.state.proofs.Readings as G
+use Rattle.state.proofs.Readings.Laws as G′
+use Rattle.state.proofs.State as S
+use Rattle.state.proofs.State.Laws as S′
+use Rattle.state.proofs.reporting.Reported as B
+use Rattle.state.proofs.reporting.Reported.Laws as B′
+use Rattle.converter.proofs.Device as D
+use Rattle.converter.proofs.Device.Laws as D′
+use Rattle.state.proofs.changes_state as changes-state-of
+use Rattle.state.proofs.changes_state.Symbol as changes-state-def
+use Rattle.state.proofs.changes_state.Met as changes-state-thm
+use Rattle.state.proofs.state_after as state-after-of
+use Rattle.state.proofs.state_after.Symbol as state-after-def
+use Rattle.state.proofs.state_after.Met as state-after-thm
+use Rattle.state.proofs.changes_zero as changes-zero-of
+use Rattle.state.proofs.changes_zero.Symbol as changes-zero-def
+use Rattle.state.proofs.changes_zero.Met as changes-zero-thm
+use Rattle.state.proofs.zero_after as zero-after-of
+use Rattle.state.proofs.zero_after.Symbol as zero-after-def
+use Rattle.state.proofs.zero_after.Met as zero-after-thm
+use Rattle.state.proofs.is_read as is-read-of
+use Rattle.state.proofs.is_read.Symbol as is-read-def
+use Rattle.state.proofs.is_read.Met as is-read-thm
+use Rattle.state.proofs.is_obeyed as is-obeyed-of
+use Rattle.state.proofs.is_obeyed.Symbol as is-obeyed-def
+use Rattle.state.proofs.is_obeyed.Met as is-obeyed-thm
+use Rattle.state.proofs.bad_reading as bad-reading-of
+use Rattle.state.proofs.bad_reading.Symbol as bad-reading-def
+use Rattle.state.proofs.bad_reading.Met as bad-reading-thm
+use Rattle.state.proofs.held_after as held-after-of
+use Rattle.state.proofs.held_after.Symbol as held-after-def
+use Rattle.state.proofs.held_after.Met as held-after-thm
+use Rattle.compensation.proofs.input_at as input-at-of
+use Rattle.compensation.proofs.input_at.Symbol as input-at-def
+use Rattle.compensation.proofs.input_at.Met as input-at-thm
+use Rattle.compensation.proofs.cell_values as cell-values-of
+use Rattle.compensation.proofs.cell_values.Symbol as cell-values-def
+use Rattle.compensation.proofs.cell_values.Met as cell-values-thm
+use Rattle.compensation.proofs.compensate as compensate-of
+use Rattle.compensation.proofs.compensate.Symbol as compensate-def
+use Rattle.compensation.proofs.compensate.Met as compensate-thm
+use Rattle.state.proofs.take as take-of
+use Rattle.state.proofs.take.Symbol as take-def
+use Rattle.state.proofs.take.Met as take-thm
+use Rattle.converter.proofs.Device.report as report-of
+use Rattle.converter.proofs.Device.report.Symbol as report-def
+use Rattle.converter.proofs.Device.report.Met as report-thm
+use Rattle.board.proofs.Call.{Plain}
+
+abbrev pub changes-state : Plain
+changes-state = record {
+  callee = record { name = changes-state-def.name; routine = changes-state-def.routine; ended = changes-state-of.ended; clauses = changes-state-of.clauses; met = changes-state-thm.met; result = tyBool; typed = λ 𝓤 H A W κs r v is. bool-lawful 𝓤 H A W .typed r _ is .0 };
+  makes = λ 𝓤 H A W κs. (EL.makes R.the-type R′.the-plain 𝓤 H A, tt);
+}
+
+abbrev pub state-after : Plain
+state-after = record {
+  callee = record { name = state-after-def.name; routine = state-after-def.routine; ended = state-after-of.ended; clauses = state-after-of.clauses; met = state-after-thm.met; result = S′.mir; typed = λ 𝓤 H A W κs r v is. LL.lawful S.the-type S′.the-laws 𝓤 H A W .typed r _ is .0 };
+  makes = λ 𝓤 H A W κs. (LL.makes S.the-type S′.the-plain 𝓤 H A, (EL.makes R.the-type R′.the-plain 𝓤 H A, tt));
+}
+
+abbrev pub changes-zero : Plain
+changes-zero = record {
+  callee = record { name = changes-zero-def.name; routine = changes-zero-def.routine; ended = changes-zero-of.ended; clauses = changes-zero-of.clauses; met = changes-zero-thm.met; result = tyBool; typed = λ 𝓤 H A W κs r v is. bool-lawful 𝓤 H A W .typed r _ is .0 };
+  makes = λ 𝓤 H A W κs. (EL.makes R.the-type R′.the-plain 𝓤 H A, tt);
+}
+
+abbrev pub zero-after : Plain
+zero-after = record {
+  callee = record { name = zero-after-def.name; routine = zero-after-def.routine; ended = zero-after-of.ended; clauses = zero-after-of.clauses; met = zero-after-thm.met; result = tyInt w64; typed = λ 𝓤 H A W κs r v is. sint-lawful 𝓤 H A W w64 .typed r _ is .0 };
+  makes = λ 𝓤 H A W κs. (sint-makes 𝓤 H A W w64, (EL.makes R.the-type R′.the-plain 𝓤 H A, tt));
+}
+
+abbrev pub is-read : Plain
+is-read = record {
+  callee = record { name = is-read-def.name; routine = is-read-def.routine; ended = is-read-of.ended; clauses = is-read-of.clauses; met = is-read-thm.met; result = tyBool; typed = λ 𝓤 H A W κs r v is. bool-lawful 𝓤 H A W .typed r _ is .0 };
+  makes = λ 𝓤 H A W κs. (EL.makes R.the-type R′.the-plain 𝓤 H A, tt);
+}
+
+abbrev pub is-obeyed : Plain
+is-obeyed = record {
+  callee = record { name = is-obeyed-def.name; routine = is-obeyed-def.routine; ended = is-obeyed-of.ended; clauses = is-obeyed-of.clauses; met = is-obeyed-thm.met; result = tyBool; typed = λ 𝓤 H A W κs r v is. bool-lawful 𝓤 H A W .typed r _ is .0 };
+  makes = λ 𝓤 H A W κs. (LL.makes G.the-type G′.the-plain 𝓤 H A, (EL.makes R.the-type R′.the-plain 𝓤 H A, tt));
+}
+
+abbrev pub bad-reading : Plain
+bad-reading = record {
+  callee = record { name = bad-reading-def.name; routine = bad-reading-def.routine; ended = bad-reading-of.ended; clauses = bad-reading-of.clauses; met = bad-reading-thm.met; result = tyBool; typed = λ 𝓤 H A W κs r v is. bool-lawful 𝓤 H A W .typed r _ is .0 };
+  makes = λ 𝓤 H A W κs. (sint-makes 𝓤 H A W w64, (sint-makes 𝓤 H A W w64, (uint-makes 𝓤 H A W w8, tt)));
+}
+
+abbrev pub held-after : Plain
+held-after = record {
+  callee = record { name = held-after-def.name; routine = held-after-def.routine; ended = held-after-of.ended; clauses = held-after-of.clauses; met = held-after-thm.met; result = tyInt w64; typed = λ 𝓤 H A W κs r v is. sint-lawful 𝓤 H A W w64 .typed r _ is .0 };
+  makes = λ 𝓤 H A W κs. (LL.makes I.the-type I′.the-plain 𝓤 H A, (LL.makes G.the-type G′.the-plain 𝓤 H A, (sint-makes 𝓤 H A W w64, tt)));
+}
+
+abbrev pub input-at : Plain
+input-at = record {
+  callee = record { name = input-at-def.name; routine = input-at-def.routine; ended = input-at-of.ended; clauses = input-at-of.clauses; met = input-at-thm.met; result = P′.mir; typed = λ 𝓤 H A W κs r v is. LL.lawful P.the-type P′.the-laws 𝓤 H A W .typed r _ is .0 };
+  makes = λ 𝓤 H A W κs. (LL.makes T.the-type T′.the-plain 𝓤 H A, (sint-makes 𝓤 H A W w64, (sint-makes 𝓤 H A W w64, tt)));
+}
+
+abbrev pub cell-values : Plain
+cell-values = record {
+  callee = record { name = cell-values-def.name; routine = cell-values-def.routine; ended = cell-values-of.ended; clauses = cell-values-of.clauses; met = cell-values-thm.met; result = K′.mir; typed = λ 𝓤 H A W κs r v is. LL.lawful K.the-type K′.the-laws 𝓤 H A W .typed r _ is .0 };
+  makes = λ 𝓤 H A W κs. (LL.makes X.the-type X′.the-plain 𝓤 H A, (LL.makes L.the-type L′.the-plain 𝓤 H A, (LL.makes P.the-type P′.the-plain 𝓤 H A, tt)));
+}
+
+abbrev pub compensate : Plain
+compensate = record {
+  callee = record { name = compensate-def.name; routine = compensate-def.routine; ended = compensate-of.ended; clauses = compensate-of.clauses; met = compensate-thm.met; result = E′.mir; typed = λ 𝓤 H A W κs r v is. LL.lawful E.the-type E′.the-laws 𝓤 H A W .typed r _ is .0 };
+  makes = λ 𝓤 H A W κs. (LL.makes X.the-type X′.the-plain 𝓤 H A, (LL.makes Y.the-type Y′.the-plain 𝓤 H A, (LL.makes K.the-type K′.the-plain 𝓤 H A, (sint-makes 𝓤 H A W w64, (sint-makes 𝓤 H A W w64, (uint-makes 𝓤 H A W w8, tt))))));
+}
+
+abbrev pub take : Plain
+take = record {
+  callee = record { name = take-def.name; routine = take-def.routine; ended = take-of.ended; clauses = take-of.clauses; met = take-thm.met; result = S′.mir; typed = λ 𝓤 H A W κs r v is. LL.lawful S.the-type S′.the-laws 𝓤 H A W .typed r _ is .0 };
+  makes = λ 𝓤 H A W κs. (LL.makes S.the-type S′.the-plain 𝓤 H A, (sint-makes 𝓤 H A W w64, (sint-makes 𝓤 H A W w64, (LL.makes E.the-type E′.the-plain 𝓤 H A, tt))));
+}
+
+abbrev pub report : Plain
+report = record {
+  callee = record { name = report-def.name; routine = report-def.routine; ended = report-of.ended; clauses = report-of.clauses; met = report-thm.met; result = B′.mir; typed = λ 𝓤 H A W κs r v is. LL.lawful B.the-type B′.the-laws 𝓤 H A W .typed r _ is .0 };
+  makes = λ 𝓤 H A W κs. (LL.makes D.the-type D′.the-plain 𝓤 H A, tt);
+}
