@@ -4,6 +4,7 @@ mod Record
 mod Outcome
 mod Call
 mod Callees
+mod Branch
 mod Lent
 mod Locals
 mod Walk

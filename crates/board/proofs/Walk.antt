@@ -2,6 +2,7 @@
 pub use mathlib.Core.Path.{_≡_, refl, sym, ap, _∙_, subst}
 pub use Prim.Native.Nat.{ℕ, _<_, _^_}
 pub use mathlib.Core.List.{[], _∷_, List}
+pub use mathlib.Core.Option.{none, some}
 pub use lib.Ieee.Bits.{is-true, is-false}
 pub use lib.IntN.{ℤ}
 pub use lib.ListN.{length}
@@ -13,13 +14,13 @@ pub use base.Logic.{SProp, ent, id⊢, emp, via, fst∗, sep}
 pub use base.Fml.{GName, Lft, Share, ftrue, fat, flft, fobs, fbor, fres, fshr-bor}
 pub use prog.Memory.{Memory}
 pub use prog.Routine.{Routine}
-pub use prog.Wp.{Heap, Env, Calls, Loops, WpFn, Tables}
+pub use prog.Wp.{Heap, Calls, Loops, WpFn, Tables}
 pub use ghost.Atoms.{Atoms}
 pub use contract.Monad.{Fun, factI}
 pub use contract.Running.{givenOf, tables}
 unfoldable pub use contract.Running.{tablesOf}
-pub use types.Kit.{Given, Item, group, ‵, atRet, _⊛_, ⋆, _$_, _∵_, !, qed, by, move, keep, drop, use1, split, join, rewrite, fsplit, fsplit3, fjoin, fjoin3, feqL, feqI, suffices, frame, done}
-pub use types.Run.{unit-lit, look, init, stop, hop, fld, from, load, addr, of-opd, and-then, no-more, assigns, assigns-last, first, skips, exec, returns, enter, alloc1, alloc0, params1, pass1, pass0, store, lit, returns-within, look-raw}
+pub use types.Kit.{Given, Item, group, ‵, _⊛_, ⋆, _$_, _∵_, !, qed, by, move, keep, drop, use1, split, join, rewrite, fsplit, fsplit3, fjoin, fjoin3, feqL, feqI, suffices, frame, done}
+pub use types.Run.{unit-lit, look, init, stop, hop, fld, from, load, addr, of-opd, and-then, no-more, assigns, first, returns, enter, alloc1, alloc0, params1, pass1, pass0, store, lit, returns-within, look-raw}
 pub use types.Part.{agg, whole, sub, look-in}
 pub use types.SemTy.{Body}
 pub use sound.WpLaws.{FmC, fmOf, WpFn-mono}

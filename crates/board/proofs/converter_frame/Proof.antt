@@ -18,11 +18,12 @@ use Rattle.converter.proofs.Entries.{unobeyed, read-unobeyed, serves}
 use Rattle.converter.proofs.Device as D
 use Rattle.converter.proofs.bus.Answered as B
 use Rattle.converter.proofs.bus.Answered.Laws as B′
-use Rattle.board.proofs.Walk.{_≡_, refl, sym, _∙_, is-true, is-false, ℕ, [], _∷_, List, length, URA, named, Val, vptr, SProp, ent, id⊢, GName, Lft, Share, ftrue, flft, fres, Memory, Routine, Heap, Env, Calls, Loops, WpFn, Tables, Atoms, Fun, givenOf, tables, tablesOf, Given, Item, group, ‵, _⊛_, ⋆, _$_, _∵_, !, qed, by, move, keep, drop, use1, split, join, fsplit, fsplit3, fjoin, feqL, suffices, frame, done, look, init, stop, hop, fld, from, load, addr, of-opd, and-then, no-more, assigns, first, skips, exec, atRet, returns, returns-within, enter, alloc1, alloc0, params1, pass1, pass0, agg, whole, sub, look-in, FmC, fmOf, WpFn-mono, owns, Is, mem, u8, RefT, MutRef, ptr-vals, mut-tells, slice-vals, MutSlice, ShrSlice, Room, finally, mut-slice-tells, shr-slice-tells, shr-slice-copy, plain, shrSliceOf, owned, nothing, onEntry, Meets, tripleOf, entered, gave-ref, goes-gave-ref, says, needs, Stays, stay-dropped, gave-slice, walkOf, AllGo, goes-dropped, goes-gave-slice, Walks, ends-at, walked, walk-meets, yes}
-use Rattle.board.proofs.Call.{Callee, AllKnown, all-known, calls-out, calls-lent, calls-plain, branches-on, local}
+use Rattle.board.proofs.Walk.{none, some, _≡_, refl, sym, _∙_, is-true, is-false, ℕ, [], _∷_, List, length, URA, named, Val, vptr, SProp, ent, id⊢, GName, Lft, Share, ftrue, flft, fres, Memory, Routine, Heap, Calls, Loops, WpFn, Tables, Atoms, Fun, givenOf, tables, tablesOf, Given, Item, group, ‵, _⊛_, ⋆, _$_, _∵_, !, qed, by, move, keep, drop, use1, split, join, fsplit, fsplit3, fjoin, feqL, suffices, frame, done, look, init, stop, hop, fld, from, load, addr, of-opd, and-then, no-more, assigns, first, returns, returns-within, enter, alloc1, alloc0, params1, pass1, pass0, agg, whole, sub, look-in, FmC, fmOf, WpFn-mono, owns, Is, mem, u8, RefT, MutRef, ptr-vals, mut-tells, slice-vals, MutSlice, ShrSlice, Room, finally, mut-slice-tells, shr-slice-tells, shr-slice-copy, plain, shrSliceOf, owned, nothing, onEntry, Meets, tripleOf, entered, gave-ref, goes-gave-ref, says, needs, Stays, stay-dropped, gave-slice, walkOf, AllGo, goes-dropped, goes-gave-slice, Walks, ends-at, walked, walk-meets, yes}
+use Rattle.board.proofs.Call.{Callee, AllKnown, all-known, calls-out, calls-lent, calls-plain, local}
 use Rattle.board.proofs.Callees.{is-read, is-obeyed}
 use Rattle.board.proofs.Lent.{slice, bytes, judge, to-judge, judge-asks, answer, to-answer, answer-asks, acknowledge, to-acknowledge, acknowledge-asks, refuse, to-refuse, refuse-asks, obey, to-obey, obey-asks}
-use Rattle.board.proofs.Locals.{frees-all, bare, holding}
+use Rattle.board.proofs.Branch.{branches-on, skips-to}
+use Rattle.board.proofs.Locals.{frees-all}
 use Rattle.board.proofs.Kept.{mach-readings, readings-is, station-fits}
 use Rattle.board.proofs.Record.{opens-record, closes-record, gives-record, station-in, sz-in, state-in, readings-in, copies}
 use Rattle.board.proofs.converter_frame.Key.{name as #board·converter-frame}
@@ -99,9 +100,9 @@ module _ {M : Type 1} (𝓤 : URA M) (H : Heap 𝓤) (A : Atoms 𝓤) (W : Given
         -- [the other tokens; the last list; true; the record's cell; the open borrow; obs; auth; true; _19; …]
         move ! (3 ∷ 4 ∷ 5 ∷ 6 ∷ []) $ gives-record ! tt h was $
         -- [the record's last value; its token; the other tokens; the last list; true; true; _19; …]
-        returns-within ! Post refl (look ! 44 refl) $ frees-all ! 6 (holding _ _ _ ∷ holding _ _ _ ∷ holding _ _ _ ∷ holding _ _ _ ∷ holding _ _ _ ∷ holding _ _ _ ∷ holding _ _ _ ∷ holding _ _ _ ∷ holding _ _ _ ∷ holding _ _ _ ∷ holding _ _ _ ∷ holding _ _ _ ∷ bare _ _ ∷ bare _ _ ∷ bare _ _ ∷ bare _ _ ∷ bare _ _ ∷ bare _ _ ∷ bare _ _ ∷ bare _ _ ∷ []) refl $
+        returns-within ! Post refl (look ! 44 refl) $ frees-all ! 6 (some _ ∷ some _ ∷ some _ ∷ some _ ∷ some _ ∷ some _ ∷ some _ ∷ some _ ∷ some _ ∷ some _ ∷ some _ ∷ some _ ∷ []) refl $
         keep ! (0 ∷ 1 ∷ 2 ∷ 3 ∷ []) $ by ! (exits r w h (zs .1 .1 .1 .1 .0) r-is (served a r (zs .1 .1 .1 .1 .0) asked refl e (sym (read-unobeyed h a (sym reads ∙ is-true c read)))) l))))
-        (λ no-read. let E : Env 𝓤 H = (_, l₀) ∷ (_, l₁) ∷ (_, l₂) ∷ (_, l₃) ∷ (_, l₄) ∷ (_, l₅) ∷ (_, l₆) ∷ (_, l₇) ∷ (_, l₈) ∷ (_, l₉) ∷ (_, l₁₀) ∷ (_, l₁₁) ∷ (_, l₁₂) ∷ (_, l₁₃) ∷ (_, l₁₄) ∷ (_, l₁₅) ∷ (_, l₁₆) ∷ (_, l₁₇) ∷ (_, l₁₈) ∷ (_, l₁₉) ∷ [] in skips ! $ exec ! C Λ E t-6 (atRet E Post) $
+        (λ no-read. skips-to ! t-6 Post $
         copies ! 3 refl (readings-in h ! was) (look ! 45 refl) (init ! 21 refl) $
         calls-plain ! fm is-obeyed (known-of .1 .1 .1 .0) (tt, tt, tt, (h .state .readings, (a, tt)), (mach-readings (h .state .readings) ∷ [], (va ∷ [], tt))) tt (id⊢ 𝓤 _) (readings-is h was, (a-is, tt)) (id⊢ 𝓤 _) (λ d. d ≡ isObeyed (h .state .readings) a) (λ d e. id⊢ 𝓤 _)
         (local ! 22 refl (local ! 40 refl (no-more !))) 23 refl refl (λ vd d tested d-is. first ! $ branches-on ! (look ! 23 refl) d d-is
@@ -117,9 +118,9 @@ module _ {M : Type 1} (𝓤 : URA M) (H : Heap 𝓤) (A : Atoms 𝓤) (W : Given
         calls-out ! fm acknowledge (known-of .1 .1 .1 .1 .1 .0) (to-acknowledge 𝓤 H A κ₁ κ₂ q₁ q₂ xf xr) tt (acknowledge-asks 𝓤 H A W at-mem run κ₁ κ₂ q₁ q₂ xf xr) (λ r zs. Answering Done (xf .now) (xr .now) (zs .1 .0) r) (λ r zs. id⊢ 𝓤 _)
         (local ! 38 refl (local ! 8 refl (no-more !))) 41 refl refl (λ w r zs e r-is. fsplit ! $ drop ! $ fsplit ! $ fsplit ! $ move ! (1 ∷ []) $ feqL ! (λ l. move ! (2 ∷ []) $
         -- [the other tokens; the last list; true; the record's last value; its token; true; _19; …]
-        returns-within ! Post refl (look ! 44 refl) $ frees-all ! 6 (holding _ _ _ ∷ holding _ _ _ ∷ holding _ _ _ ∷ holding _ _ _ ∷ holding _ _ _ ∷ holding _ _ _ ∷ holding _ _ _ ∷ holding _ _ _ ∷ bare _ _ ∷ bare _ _ ∷ bare _ _ ∷ bare _ _ ∷ holding _ _ _ ∷ holding _ _ _ ∷ holding _ _ _ ∷ holding _ _ _ ∷ holding _ _ _ ∷ holding _ _ _ ∷ bare _ _ ∷ bare _ _ ∷ []) refl $
+        returns-within ! Post refl (look ! 44 refl) $ frees-all ! 6 (some _ ∷ some _ ∷ some _ ∷ some _ ∷ some _ ∷ some _ ∷ some _ ∷ some _ ∷ none ∷ none ∷ none ∷ none ∷ some _ ∷ some _ ∷ some _ ∷ some _ ∷ some _ ∷ some _ ∷ []) refl $
         keep ! (3 ∷ 4 ∷ 0 ∷ 1 ∷ []) $ by ! (exits r w (ds .0) (zs .1 .0) r-is (served a r (zs .1 .0) asked (answer-obeyed (h .state) _ a (sym tested ∙ is-true d obeys)) e done-so) l)))))
-        (λ no-more-asked. skips ! $ exec ! C Λ _ t-9 (atRet _ Post) $
+        (λ no-more-asked. skips-to ! t-9 Post $
         assigns ! (addr ! (from ! (fld ! refl (hop ! (look-in ! 41 (sub ! 0 refl (whole !))) (stop !))))) (from ! (stop !)) (init ! 11 refl (tt, tt)) $
         assigns ! (agg ! (and-then ! (load ! (from ! (stop !)) (look ! 11 refl)) (and-then ! (load ! (from ! (fld ! refl (stop !))) (look-in ! 41 (sub ! 1 refl (whole !)))) (no-more !)))) (from ! (stop !)) (init ! 9 refl (tt, (tt, (record { fits = room-r .0 }, tt)))) $
         move ! (0 ∷ 2 ∷ []) $ join ! $ move ! (0 ∷ 1 ∷ 6 ∷ []) $ group ! 3 $
@@ -127,7 +128,7 @@ module _ {M : Type 1} (𝓤 : URA M) (H : Heap 𝓤) (A : Atoms 𝓤) (W : Given
         calls-out ! fm refuse (known-of .1 .1 .1 .1 .1 .1 .0) (to-refuse 𝓤 H A κ₁ κ₂ q₁ q₂ xf xr a va) tt (refuse-asks 𝓤 H A W at-mem run κ₁ κ₂ q₁ q₂ xf xr a va a-is) (λ r zs. Answering (Refused (refusalOf a)) (xf .now) (xr .now) (zs .1 .1 .0) r) (λ r zs. id⊢ 𝓤 _)
         (local ! 36 refl (local ! 40 refl (local ! 6 refl (no-more !)))) 43 refl refl (λ w r zs e r-is. fsplit ! $ drop ! $ fsplit ! $ drop ! $ fsplit ! $ fsplit ! $ move ! (1 ∷ []) $ feqL ! (λ l. move ! (2 ∷ []) $
         move ! (3 ∷ 4 ∷ 5 ∷ 6 ∷ []) $ gives-record ! tt h was $
-        returns ! (look ! 44 refl) $ frees-all ! 6 (holding _ _ _ ∷ holding _ _ _ ∷ holding _ _ _ ∷ holding _ _ _ ∷ holding _ _ _ ∷ holding _ _ _ ∷ holding _ _ _ ∷ holding _ _ _ ∷ bare _ _ ∷ bare _ _ ∷ bare _ _ ∷ bare _ _ ∷ holding _ _ _ ∷ holding _ _ _ ∷ bare _ _ ∷ bare _ _ ∷ bare _ _ ∷ bare _ _ ∷ holding _ _ _ ∷ holding _ _ _ ∷ []) refl $
+        returns ! (look ! 44 refl) $ frees-all ! 6 (some _ ∷ some _ ∷ some _ ∷ some _ ∷ some _ ∷ some _ ∷ some _ ∷ some _ ∷ none ∷ none ∷ none ∷ none ∷ some _ ∷ some _ ∷ none ∷ none ∷ none ∷ none ∷ some _ ∷ some _ ∷ []) refl $
         keep ! (0 ∷ 1 ∷ 2 ∷ 3 ∷ []) $ by ! (exits r w h (zs .1 .1 .0) r-is (served a r (zs .1 .1 .0) asked (answer-refused (h .state) _ a (sym reads ∙ is-false c no-read) (sym tested ∙ is-false d no-more-asked)) e (sym (unobeyed h a (sym tested ∙ is-false d no-more-asked)))) l)))))))))))))))))))))))))))))
 
 module _ {M : Type 1} (𝓤 : URA M) (H : Heap 𝓤) (A : Atoms 𝓤) (W : Given 𝓤 H A) (mem : Memory → SProp 𝓤) (run : Routine → Fun 𝓤) where

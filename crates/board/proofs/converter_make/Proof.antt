@@ -5,9 +5,9 @@ use Rattle.converter.specs.declared.Device.{Device}
 use Rattle.converter.specs.declared.Outcome.{Outcome}
 use Rattle.converter.proofs.Device as D
 use Rattle.converter.proofs.Outcome.Laws as S′
-use Rattle.board.proofs.Walk.{refl, ℕ, _<_, _^_, [], _∷_, List, length, URA, fullShare, named, w8, Val, vint, vptr, SProp, ent, emp, via, fst∗, id⊢, GName, Lft, Share, ftrue, fat, flft, fobs, fbor, Memory, Routine, Heap, Calls, Loops, WpFn, Tables, Atoms, Fun, givenOf, tables, tablesOf, Given, Item, ‵, ⋆, _⊛_, _$_, _∵_, !, qed, by, move, keep, drop, split, join, rewrite, fsplit, fsplit3, fjoin, fjoin3, feqI, suffices, frame, done, look, store, init, stop, hop, fld, from, load, of-opd, no-more, assigns, returns, enter, alloc1, alloc0, params1, pass1, pass0, look-in, Body, FmC, fmOf, WpFn-mono, owns, Is, mem, uint-vals, uint-tells, uint-makes, u8, RefT, MutRef, ptr-vals, mut-tells, sliceVal, slice-vals, ShrSlice, Room, shr-slice-tells, plain, shrSliceOf, owned, nothing, onEntry, Meets, tripleOf, entered, says, Stays, stay-ref, stay-none, stay-dropped, walkOf, AllGo, goes-none, goes-ref, goes-dropped, Walks, ends-at, walked, walk-meets, yes}
+use Rattle.board.proofs.Walk.{some, refl, ℕ, _<_, _^_, [], _∷_, List, length, URA, fullShare, named, w8, Val, vint, vptr, SProp, ent, emp, via, fst∗, id⊢, GName, Lft, Share, ftrue, fat, flft, fobs, fbor, Memory, Routine, Heap, Calls, Loops, WpFn, Tables, Atoms, Fun, givenOf, tables, tablesOf, Given, Item, ‵, ⋆, _⊛_, _$_, _∵_, !, qed, by, move, keep, drop, split, join, rewrite, fsplit, fsplit3, fjoin, fjoin3, feqI, suffices, frame, done, look, store, init, stop, hop, fld, from, load, of-opd, no-more, assigns, returns, enter, alloc1, alloc0, params1, pass1, pass0, look-in, Body, FmC, fmOf, WpFn-mono, owns, Is, mem, uint-vals, uint-tells, uint-makes, u8, RefT, MutRef, ptr-vals, mut-tells, sliceVal, slice-vals, ShrSlice, Room, shr-slice-tells, plain, shrSliceOf, owned, nothing, onEntry, Meets, tripleOf, entered, says, Stays, stay-ref, stay-none, stay-dropped, walkOf, AllGo, goes-none, goes-ref, goes-dropped, Walks, ends-at, walked, walk-meets, yes}
 use Rattle.board.proofs.Call.{Callee, triple, AllKnown, all-known, calls-lent, local}
-use Rattle.board.proofs.Locals.{frees-all, holding}
+use Rattle.board.proofs.Locals.{frees-all}
 use Rattle.board.proofs.Kept.{typed}
 use Rattle.board.proofs.Record.{opens-record, closes-record}
 use Rattle.board.proofs.Outcome as O
@@ -81,7 +81,7 @@ module _ {M : Type 1} (𝓤 : URA M) (H : Heap 𝓤) (A : Atoms 𝓤) (W : Given
         assigns ! (of-opd ! (load ! (from ! (fld ! O.number-at (stop !))) (look-in ! 6 (O.number-in ! l₄ r)))) (from ! (stop !)) (init ! 14 refl (tt, record { fits = O.number-fits r v is })) $
         move ! (1 ∷ 2 ∷ 3 ∷ 4 ∷ []) $ closes-record ! tt (r .device) (O.device-is r v is) $
         -- [obs; the borrow; its token; the sheet's token; the station's; _4; …]
-        returns ! (look ! 13 refl) $ frees-all ! 5 (holding _ _ _ ∷ holding _ _ _ ∷ holding _ _ _ ∷ holding _ _ _ ∷ holding _ _ _ ∷ []) refl $
+        returns ! (look ! 13 refl) $ frees-all ! 5 (some _ ∷ some _ ∷ some _ ∷ some _ ∷ some _ ∷ []) refl $
         keep ! (0 ∷ 1 ∷ 2 ∷ 3 ∷ []) $ by ! (exits r (O.number-fits r v is) e))))))))
 
 module _ {M : Type 1} (𝓤 : URA M) (H : Heap 𝓤) (A : Atoms 𝓤) (W : Given 𝓤 H A) (mem : Memory → SProp 𝓤) (run : Routine → Fun 𝓤) where

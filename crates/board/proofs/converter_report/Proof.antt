@@ -9,10 +9,10 @@ use Rattle.converter.specs.Reached.{Reached}
 use Rattle.converter.specs.declared.Device.{Device}
 use Rattle.converter.proofs.Device as D
 use Rattle.converter.proofs.Device.Laws as D′
-use Rattle.board.proofs.Walk.{_≡_, refl, ℕ, [], _∷_, List, URA, named, Val, vptr, emp, SProp, ent, sep, id⊢, GName, Lft, Share, ftrue, flft, fres, fshr-bor, Memory, Routine, Heap, Calls, Loops, WpFn, Tables, Atoms, Fun, factI, givenOf, tables, tablesOf, Given, ‵, _⊛_, _$_, _∵_, !, qed, by, move, keep, drop, split, join, fsplit, fsplit3, fjoin, fjoin3, feqI, suffices, frame, done, look, look-raw, init, stop, hop, from, load, of-opd, no-more, assigns, returns, enter, alloc1, alloc0, params1, pass1, pass0, FmC, fmOf, WpFn-mono, owns, Is, shows, partAt, RefT, ShrRef, ptr-vals, shr-tells, plain, looks, shuts, owned, peeks, nothing, spelt, onEntry, Meets, tripleOf, entered, says, needs, Stays, stay-none-ref, walkOf, AllGo, goes-none-ref, Walks, ends-at, walked, walk-meets, yes}
+use Rattle.board.proofs.Walk.{some, _≡_, refl, ℕ, [], _∷_, List, URA, named, Val, vptr, emp, SProp, ent, sep, id⊢, GName, Lft, Share, ftrue, flft, fres, fshr-bor, Memory, Routine, Heap, Calls, Loops, WpFn, Tables, Atoms, Fun, factI, givenOf, tables, tablesOf, Given, ‵, _⊛_, _$_, _∵_, !, qed, by, move, keep, drop, split, join, fsplit, fsplit3, fjoin, fjoin3, feqI, suffices, frame, done, look, look-raw, init, stop, hop, from, load, of-opd, no-more, assigns, returns, enter, alloc1, alloc0, params1, pass1, pass0, FmC, fmOf, WpFn-mono, owns, Is, shows, partAt, RefT, ShrRef, ptr-vals, shr-tells, plain, looks, shuts, owned, peeks, nothing, spelt, onEntry, Meets, tripleOf, entered, says, needs, Stays, stay-none-ref, walkOf, AllGo, goes-none-ref, Walks, ends-at, walked, walk-meets, yes}
 use Rattle.board.proofs.Call.{AllKnown, all-known, calls-plain, local}
 use Rattle.board.proofs.Callees.{report}
-use Rattle.board.proofs.Locals.{frees-all, holding}
+use Rattle.board.proofs.Locals.{frees-all}
 use Rattle.board.proofs.Kept.{mach, tells, typed}
 use Rattle.board.proofs.converter_report.Key.{name as #board·converter-report}
 use Rattle.board.proofs.converter_report as f
@@ -56,7 +56,7 @@ module _ {M : Type 1} (𝓤 : URA M) (H : Heap 𝓤) (A : Atoms 𝓤) (W : Given
         shuts ! tt D.the-row q′ h (mach h ∷ []) b o $
         -- [the token; the borrow; true; res; true; _2; …; _1; …; room for _0; …]
         calls-plain ! fm report (known .0) (tt, tt, tt, (h, tt), (mach h ∷ [], tt)) tt (id⊢ 𝓤 _) (was, tt) (factI 𝓤 _ (emp 𝓤) reached) Said (λ r e. id⊢ 𝓤 _) (local ! 6 refl (no-more !)) 9 refl refl (λ v r e is.
-        returns ! (look ! 9 refl) $ frees-all ! 5 (holding _ _ _ ∷ holding _ _ _ ∷ holding _ _ _ ∷ []) refl $
+        returns ! (look ! 9 refl) $ frees-all ! 5 (some _ ∷ some _ ∷ some _ ∷ []) refl $
         keep ! (0 ∷ 3 ∷ 1 ∷ []) $ by ! (exits r v is e)))))))
 
 module _ {M : Type 1} (𝓤 : URA M) (H : Heap 𝓤) (A : Atoms 𝓤) (W : Given 𝓤 H A) (mem : Memory → SProp 𝓤) (run : Routine → Fun 𝓤) where
