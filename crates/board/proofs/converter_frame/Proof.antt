@@ -18,7 +18,7 @@ use Rattle.converter.proofs.Entries.{unobeyed, read-unobeyed, serves}
 use Rattle.converter.proofs.Device as D
 use Rattle.converter.proofs.bus.Answered as B
 use Rattle.converter.proofs.bus.Answered.Laws as B′
-use Rattle.board.proofs.Walk.{none, some, _≡_, refl, sym, _∙_, is-true, is-false, ℕ, [], _∷_, List, length, URA, named, Val, vptr, SProp, ent, id⊢, GName, Lft, Share, ftrue, flft, fres, Memory, Routine, Heap, Calls, Loops, WpFn, Tables, Atoms, Fun, givenOf, tables, tablesOf, Given, Item, group, ‵, _⊛_, ⋆, _$_, _∵_, !, qed, by, move, keep, drop, use1, split, join, fsplit, fsplit3, fjoin, feqL, suffices, frame, done, look, init, stop, hop, fld, from, load, addr, of-opd, and-then, no-more, assigns, first, returns, returns-within, enter, alloc1, alloc0, params1, pass1, pass0, agg, whole, sub, look-in, FmC, fmOf, WpFn-mono, owns, Is, mem, u8, RefT, MutRef, ptr-vals, mut-tells, slice-vals, MutSlice, ShrSlice, Room, finally, mut-slice-tells, shr-slice-tells, shr-slice-copy, plain, shrSliceOf, owned, nothing, onEntry, Meets, tripleOf, entered, gave-ref, goes-gave-ref, says, needs, Stays, stay-dropped, gave-slice, walkOf, AllGo, goes-dropped, goes-gave-slice, Walks, ends-at, walked, walk-meets, yes}
+use Rattle.board.proofs.Walk.{none, some, _≡_, refl, sym, ℕ, [], _∷_, List, length, URA, named, Val, vptr, SProp, ent, id⊢, GName, Lft, Share, ftrue, flft, fres, Memory, Routine, Heap, Calls, Loops, WpFn, Tables, Atoms, Fun, givenOf, tables, tablesOf, Given, Item, group, ‵, _⊛_, ⋆, _$_, _∵_, !, qed, by, move, keep, drop, use1, split, join, fsplit, fsplit3, fjoin, feqL, suffices, frame, done, look, init, stop, hop, fld, from, load, addr, of-opd, and-then, no-more, assigns, first, returns, returns-within, enter, alloc1, alloc0, params1, pass1, pass0, agg, whole, sub, look-in, FmC, fmOf, WpFn-mono, owns, Is, mem, u8, RefT, MutRef, ptr-vals, mut-tells, slice-vals, MutSlice, ShrSlice, Room, finally, mut-slice-tells, shr-slice-tells, shr-slice-copy, plain, shrSliceOf, owned, nothing, onEntry, Meets, tripleOf, entered, gave-ref, goes-gave-ref, says, needs, Stays, stay-dropped, gave-slice, walkOf, AllGo, goes-dropped, goes-gave-slice, Walks, ends-at, walked, walk-meets, yes}
 use Rattle.board.proofs.Call.{Callee, AllKnown, all-known, calls-out, calls-lent, calls-plain, local}
 use Rattle.board.proofs.Callees.{is-read, is-obeyed}
 use Rattle.board.proofs.Lent.{slice, bytes, judge, to-judge, judge-asks, answer, to-answer, answer-asks, acknowledge, to-acknowledge, acknowledge-asks, refuse, to-refuse, refuse-asks, obey, to-obey, obey-asks}
@@ -87,7 +87,7 @@ module _ {M : Type 1} (𝓤 : URA M) (H : Heap 𝓤) (A : Atoms 𝓤) (W : Given
         calls-lent ! fm judge (known-of .0) (to-judge 𝓤 H A κ₁ q₁ xf room (h .setup .station)) tt (judge-asks 𝓤 H A W at-mem run κ₁ q₁ xf room (h .setup .station) (room-r .0) (station-fits h was)) (λ a. a ≡ judged (xf .now) room (h .setup .station)) (λ a e. id⊢ 𝓤 _)
         (local ! 43 refl (local ! 37 refl (local ! 35 refl (no-more !)))) 38 refl refl (λ va a asked a-is.
         calls-plain ! fm is-read (known-of .1 .0) (tt, tt, tt, (a, tt), (va ∷ [], tt)) tt (id⊢ 𝓤 _) (a-is, tt) (id⊢ 𝓤 _) (λ c. c ≡ isRead a) (λ c e. id⊢ 𝓤 _) (local ! 40 refl (no-more !)) 33 refl refl (λ vc c reads c-is.
-        first ! $ branches-on ! (look ! 33 refl) c c-is
+        first ! $ branches-on ! (look ! 33 refl) c-is reads
         (λ read. copies ! 3 refl (state-in h ! was) (look ! 45 refl) (init ! 31 refl) $ copies ! 3 refl (sz-in h ! was) (look ! 45 refl) (init ! 29 refl) $
         assigns ! (addr ! (from ! (fld ! refl (hop ! (look-in ! 41 (sub ! 0 refl (whole !))) (stop !))))) (from ! (stop !)) (init ! 27 refl (tt, tt)) $
         assigns ! (agg ! (and-then ! (load ! (from ! (stop !)) (look ! 27 refl)) (and-then ! (load ! (from ! (fld ! refl (stop !))) (look-in ! 41 (sub ! 1 refl (whole !)))) (no-more !)))) (from ! (stop !)) (init ! 25 refl (tt, (tt, (record { fits = room-r .0 }, tt)))) $
@@ -101,11 +101,11 @@ module _ {M : Type 1} (𝓤 : URA M) (H : Heap 𝓤) (A : Atoms 𝓤) (W : Given
         move ! (3 ∷ 4 ∷ 5 ∷ 6 ∷ []) $ gives-record ! tt h was $
         -- [the record's last value; its token; the other tokens; the last list; true; true; _19; …]
         returns-within ! Post refl (look ! 44 refl) $ frees-all ! 6 (some _ ∷ some _ ∷ some _ ∷ some _ ∷ some _ ∷ some _ ∷ some _ ∷ some _ ∷ some _ ∷ some _ ∷ some _ ∷ some _ ∷ []) refl $
-        keep ! (0 ∷ 1 ∷ 2 ∷ 3 ∷ []) $ by ! (exits r w h (zs .1 .1 .1 .1 .0) r-is (served a r (zs .1 .1 .1 .1 .0) asked refl e (sym (read-unobeyed h a (sym reads ∙ is-true c read)))) l))))
+        keep ! (0 ∷ 1 ∷ 2 ∷ 3 ∷ []) $ by ! (exits r w h (zs .1 .1 .1 .1 .0) r-is (served a r (zs .1 .1 .1 .1 .0) asked refl e (sym (read-unobeyed h a read))) l))))
         (λ no-read. skips-to ! t-6 Post $
         copies ! 3 refl (readings-in h ! was) (look ! 45 refl) (init ! 21 refl) $
         calls-plain ! fm is-obeyed (known-of .1 .1 .1 .0) (tt, tt, tt, (h .state .readings, (a, tt)), (mach-readings (h .state .readings) ∷ [], (va ∷ [], tt))) tt (id⊢ 𝓤 _) (readings-is h was, (a-is, tt)) (id⊢ 𝓤 _) (λ d. d ≡ isObeyed (h .state .readings) a) (λ d e. id⊢ 𝓤 _)
-        (local ! 22 refl (local ! 40 refl (no-more !))) 23 refl refl (λ vd d tested d-is. first ! $ branches-on ! (look ! 23 refl) d d-is
+        (local ! 22 refl (local ! 40 refl (no-more !))) 23 refl refl (λ vd d tested d-is. first ! $ branches-on ! (look ! 23 refl) d-is tested
         (λ obeys. assigns ! (addr ! (from ! (hop ! (look ! 45 refl) (stop !)))) (from ! (stop !)) (init ! 17 refl (tt, tt)) $ move ! (3 ∷ 4 ∷ 5 ∷ 6 ∷ []) $ closes-record ! tt h was $ group ! 3 $
         -- [what `obey` asks; the frame's token; the frame; the reply's token; the reply; true; _19; …]
         calls-out ! fm obey (known-of .1 .1 .1 .1 .0) (to-obey 𝓤 H A κ q b o γ h a va) tt (obey-asks 𝓤 H A W at-mem run κ q b o γ h a va a-is) (λ u ds. ds .0 ≡ obeyed h a) (λ u ds. id⊢ 𝓤 _)
@@ -119,7 +119,7 @@ module _ {M : Type 1} (𝓤 : URA M) (H : Heap 𝓤) (A : Atoms 𝓤) (W : Given
         (local ! 38 refl (local ! 8 refl (no-more !))) 41 refl refl (λ w r zs e r-is. fsplit ! $ drop ! $ fsplit ! $ fsplit ! $ move ! (1 ∷ []) $ feqL ! (λ l. move ! (2 ∷ []) $
         -- [the other tokens; the last list; true; the record's last value; its token; true; _19; …]
         returns-within ! Post refl (look ! 44 refl) $ frees-all ! 6 (some _ ∷ some _ ∷ some _ ∷ some _ ∷ some _ ∷ some _ ∷ some _ ∷ some _ ∷ none ∷ none ∷ none ∷ none ∷ some _ ∷ some _ ∷ some _ ∷ some _ ∷ some _ ∷ some _ ∷ []) refl $
-        keep ! (3 ∷ 4 ∷ 0 ∷ 1 ∷ []) $ by ! (exits r w (ds .0) (zs .1 .0) r-is (served a r (zs .1 .0) asked (answer-obeyed (h .state) _ a (sym tested ∙ is-true d obeys)) e done-so) l)))))
+        keep ! (3 ∷ 4 ∷ 0 ∷ 1 ∷ []) $ by ! (exits r w (ds .0) (zs .1 .0) r-is (served a r (zs .1 .0) asked (answer-obeyed (h .state) _ a obeys) e done-so) l)))))
         (λ no-more-asked. skips-to ! t-9 Post $
         assigns ! (addr ! (from ! (fld ! refl (hop ! (look-in ! 41 (sub ! 0 refl (whole !))) (stop !))))) (from ! (stop !)) (init ! 11 refl (tt, tt)) $
         assigns ! (agg ! (and-then ! (load ! (from ! (stop !)) (look ! 11 refl)) (and-then ! (load ! (from ! (fld ! refl (stop !))) (look-in ! 41 (sub ! 1 refl (whole !)))) (no-more !)))) (from ! (stop !)) (init ! 9 refl (tt, (tt, (record { fits = room-r .0 }, tt)))) $
@@ -129,7 +129,7 @@ module _ {M : Type 1} (𝓤 : URA M) (H : Heap 𝓤) (A : Atoms 𝓤) (W : Given
         (local ! 36 refl (local ! 40 refl (local ! 6 refl (no-more !)))) 43 refl refl (λ w r zs e r-is. fsplit ! $ drop ! $ fsplit ! $ drop ! $ fsplit ! $ fsplit ! $ move ! (1 ∷ []) $ feqL ! (λ l. move ! (2 ∷ []) $
         move ! (3 ∷ 4 ∷ 5 ∷ 6 ∷ []) $ gives-record ! tt h was $
         returns ! (look ! 44 refl) $ frees-all ! 6 (some _ ∷ some _ ∷ some _ ∷ some _ ∷ some _ ∷ some _ ∷ some _ ∷ some _ ∷ none ∷ none ∷ none ∷ none ∷ some _ ∷ some _ ∷ none ∷ none ∷ none ∷ none ∷ some _ ∷ some _ ∷ []) refl $
-        keep ! (0 ∷ 1 ∷ 2 ∷ 3 ∷ []) $ by ! (exits r w h (zs .1 .1 .0) r-is (served a r (zs .1 .1 .0) asked (answer-refused (h .state) _ a (sym reads ∙ is-false c no-read) (sym tested ∙ is-false d no-more-asked)) e (sym (unobeyed h a (sym tested ∙ is-false d no-more-asked)))) l)))))))))))))))))))))))))))))
+        keep ! (0 ∷ 1 ∷ 2 ∷ 3 ∷ []) $ by ! (exits r w h (zs .1 .1 .0) r-is (served a r (zs .1 .1 .0) asked (answer-refused (h .state) _ a no-read no-more-asked) e (sym (unobeyed h a no-more-asked))) l)))))))))))))))))))))))))))))
 
 module _ {M : Type 1} (𝓤 : URA M) (H : Heap 𝓤) (A : Atoms 𝓤) (W : Given 𝓤 H A) (mem : Memory → SProp 𝓤) (run : Routine → Fun 𝓤) where
   walks : (C : Calls 𝓤 H) (Λ : Loops 𝓤 H) → FmC 𝓤 H (W .laws) C → AllKnown 𝓤 H A mem run C callees → Walks 𝓤 H A f.ended stayed (WpFn 𝓤 H C Λ code.function) (f.clauses 𝓤 H A mem run)

@@ -18,7 +18,7 @@ use Rattle.converter.specs.declared.Device.{Device}
 use Rattle.converter.specs.declared.Outcome.{Outcome}
 use Rattle.converter.proofs.Entries.{refuses, filters, adjusts, corrects, compensates, joins}
 use Rattle.converter.proofs.Device as D
-use Rattle.board.proofs.Walk.{none, some, _≡_, refl, sym, _∙_, ℕ, _<_, _^_, [], _∷_, List, lit<, is-true, is-false, ℤ, URA, named, w8, w64, Val, vint, vptr, ofZ, SProp, ent, sep, emp, id⊢, GName, Lft, Share, ftrue, flft, fobs, fbor, Memory, Routine, Heap, Calls, Loops, WpFn, Tables, Atoms, Fun, factI, givenOf, tables, tablesOf, Given, ‵, _⊛_, _$_, _∵_, !, qed, by, move, keep, drop, split, join, fsplit, fsplit3, fjoin, fjoin3, feqI, suffices, frame, done, look, init, stop, hop, fld, from, load, lit, of-opd, no-more, assigns, first, returns, returns-within, enter, alloc1, alloc0, params1, pass1, pass0, store, Body, FmC, fmOf, WpFn-mono, owns, Is, mem, uint-vals, uint-tells, uint-makes, sint-vals, sint-tells, sint-makes, sint-lawful, u8, i64, RefT, MutRef, ptr-vals, mut-tells, plain, owned, nothing, onEntry, Meets, tripleOf, entered, says, needs, Stays, stay-ref, stay-none, walkOf, AllGo, goes-none, goes-ref, Walks, ends-at, walked, walk-meets, yes}
+use Rattle.board.proofs.Walk.{none, some, _≡_, refl, ℕ, _<_, _^_, [], _∷_, List, lit<, ℤ, URA, named, w8, w64, Val, vint, vptr, ofZ, SProp, ent, sep, emp, id⊢, GName, Lft, Share, ftrue, flft, fobs, fbor, Memory, Routine, Heap, Calls, Loops, WpFn, Tables, Atoms, Fun, factI, givenOf, tables, tablesOf, Given, ‵, _⊛_, _$_, _∵_, !, qed, by, move, keep, drop, split, join, fsplit, fsplit3, fjoin, fjoin3, feqI, suffices, frame, done, look, init, stop, hop, fld, from, load, lit, of-opd, no-more, assigns, first, returns, returns-within, enter, alloc1, alloc0, params1, pass1, pass0, store, Body, FmC, fmOf, WpFn-mono, owns, Is, mem, uint-vals, uint-tells, uint-makes, sint-vals, sint-tells, sint-makes, sint-lawful, u8, i64, RefT, MutRef, ptr-vals, mut-tells, plain, owned, nothing, onEntry, Meets, tripleOf, entered, says, needs, Stays, stay-ref, stay-none, walkOf, AllGo, goes-none, goes-ref, Walks, ends-at, walked, walk-meets, yes}
 use Rattle.board.proofs.Call.{Callee, AllKnown, all-known, calls-plain, local}
 use Rattle.board.proofs.Callees.{bad-reading, held-after, input-at, cell-values, compensate, take}
 use Rattle.board.proofs.Branch.{branches-on, skips-to}
@@ -67,11 +67,11 @@ module _ {M : Type 1} (𝓤 : URA M) (H : Heap 𝓤) (A : Atoms 𝓤) (W : Given
         move ! (37 ∷ []) $ fsplit ! $ fsplit3 ! $ drop ! $ move ! (2 ∷ []) $ drop ! $ move ! (38 ∷ []) $ split ! $ move ! (2 ∷ 3 ∷ 0 ∷ []) $
         -- [obs; the borrow; its token; true; _17; …; _1; …; room for _0; …]
         calls-plain ! fm bad-reading (known-of .0) (tt, tt, tt, (z, (t, (n, tt))), numbers) tt (id⊢ 𝓤 _) (z-is, (t-is, ((refl, n-fits), tt))) (id⊢ 𝓤 _) (λ r. r ≡ badReading z t n) (λ r e. id⊢ 𝓤 _)
-        (local ! 35 refl (local ! 33 refl (local ! 31 refl (no-more !)))) 20 refl refl (λ v bad bad-is is. first ! $ branches-on ! (look ! 20 refl) bad is
+        (local ! 35 refl (local ! 33 refl (local ! 31 refl (no-more !)))) 20 refl refl (λ v bad bad-is is. first ! $ branches-on ! (look ! 20 refl) is bad-is
         (λ held. assigns ! (of-opd ! (lit ! tt)) (from ! (stop !)) (init ! 38 refl (tt, record { fits = lit< tt })) $
         returns-within ! Post refl (look ! 38 refl) $ frees-all ! 4 (some _ ∷ some _ ∷ some _ ∷ some _ ∷ some _ ∷ none ∷ none ∷ none ∷ none ∷ some _ ∷ []) refl $
-        keep ! (0 ∷ 1 ∷ 2 ∷ []) $ by ! (exits (record { number = 9; device = h }) (lit< tt) (refuses reached z t n (sym bad-is ∙ is-true bad held))))
-        (λ left. let good = sym bad-is ∙ is-false bad left in skips-to ! t-3 Post $ opens-record ! tt h (λ was.
+        keep ! (0 ∷ 1 ∷ 2 ∷ []) $ by ! (exits (record { number = 9; device = h }) (lit< tt) (refuses reached z t n held)))
+        (λ good. skips-to ! t-3 Post $ opens-record ! tt h (λ was.
         -- [the record's cell; the open borrow; obs; auth; true; _17; …]
         copies ! 0 refl (filter-in h ! was) (look ! 37 refl) (init ! 19 refl) $ copies ! 0 refl (readings-in h ! was) (look ! 37 refl) (init ! 17 refl) $
         calls-plain ! fm held-after (known-of .1 .0) (tt, tt, tt, (h .setup .figures .filter, (h .state .readings, (z, tt))), (mach-filter (h .setup .figures .filter) ∷ [], (mach-readings (h .state .readings) ∷ [], (number z ∷ [], tt)))) tt (id⊢ 𝓤 _)

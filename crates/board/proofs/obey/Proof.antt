@@ -11,7 +11,7 @@ use Rattle.state.proofs.State.Laws as S′
 use Rattle.converter.specs.Call.{obeyed}
 use Rattle.converter.specs.declared.Device.{Device}
 use Rattle.converter.proofs.Device as D
-use Rattle.board.proofs.Walk.{none, some, _≡_, refl, sym, _∙_, ℕ, [], _∷_, List, is-true, is-false, ℤ, URA, named, Val, vptr, vunit, SProp, ent, id⊢, emp, via, fst∗, sep, GName, Lft, Share, ftrue, flft, fobs, fbor, Memory, Routine, Heap, Calls, Loops, WpFn, Tables, Atoms, Fun, givenOf, tables, tablesOf, Given, ‵, _⊛_, _$_, _∵_, !, qed, by, move, keep, drop, split, join, fsplit, fsplit3, fjoin, fjoin3, feqI, suffices, frame, done, unit-lit, look, init, stop, hop, fld, from, load, of-opd, no-more, assigns, first, returns, enter, alloc1, alloc0, params1, pass1, pass0, Body, FmC, fmOf, WpFn-mono, owns, Is, mem, RefT, MutRef, ptr-vals, mut-tells, plain, owned, nothing, onEntry, Meets, tripleOf, entered, says, Stays, stay-ref, walkOf, AllGo, goes-ref, Walks, ends-at, walked, walk-meets, stay-none, goes-none, yes}
+use Rattle.board.proofs.Walk.{none, some, _≡_, refl, sym, ℕ, [], _∷_, List, ℤ, URA, named, Val, vptr, vunit, SProp, ent, id⊢, emp, via, fst∗, sep, GName, Lft, Share, ftrue, flft, fobs, fbor, Memory, Routine, Heap, Calls, Loops, WpFn, Tables, Atoms, Fun, givenOf, tables, tablesOf, Given, ‵, _⊛_, _$_, _∵_, !, qed, by, move, keep, drop, split, join, fsplit, fsplit3, fjoin, fjoin3, feqI, suffices, frame, done, unit-lit, look, init, stop, hop, fld, from, load, of-opd, no-more, assigns, first, returns, enter, alloc1, alloc0, params1, pass1, pass0, Body, FmC, fmOf, WpFn-mono, owns, Is, mem, RefT, MutRef, ptr-vals, mut-tells, plain, owned, nothing, onEntry, Meets, tripleOf, entered, says, Stays, stay-ref, walkOf, AllGo, goes-ref, Walks, ends-at, walked, walk-meets, stay-none, goes-none, yes}
 use Rattle.board.proofs.Call.{Callee, AllKnown, all-known, calls-plain, local}
 use Rattle.board.proofs.Callees.{changes-state, state-after, changes-zero, zero-after}
 use Rattle.board.proofs.Branch.{branches-on, skips-to, assigns-to}
@@ -66,26 +66,26 @@ module _ {M : Type 1} (𝓤 : URA M) (H : Heap 𝓤) (A : Atoms 𝓤) (W : Given
         opens-record ! tt h (λ was.
         -- [the record's cell; the open borrow; obs; auth; true; _8; …; _1; …; room for _0; …]
         calls-plain ! fm changes-state (known-of .0) (tt, tt, tt, (a, tt), (va ∷ [], tt)) tt (id⊢ 𝓤 _) (a-is, tt) (id⊢ 𝓤 _) (λ c. c ≡ changesState a) (λ c e. id⊢ 𝓤 _) (local ! 18 refl (no-more !)) 15 refl refl (λ vc c changes c-is.
-        first ! $ branches-on ! (look ! 15 refl) c c-is
+        first ! $ branches-on ! (look ! 15 refl) c-is changes
         (λ changed. copies ! 0 refl (state-in h ! was) (look ! 19 refl) (init ! 11 refl) $
         calls-plain ! fm state-after (known-of .1 .0) (tt, tt, tt, (h .state, (a, tt)), (mach-state (h .state) ∷ [], (va ∷ [], tt))) tt (id⊢ 𝓤 _) (state-is h was, (a-is, tt)) (id⊢ 𝓤 _) (λ s. s ≡ stateBy (h .state) a) (λ s e. id⊢ 𝓤 _)
         (local ! 12 refl (local ! 18 refl (no-more !))) 13 refl refl (λ vs s turned s-is.
         assigns-to ! t-3 Post (of-opd ! (load ! (from ! (stop !)) (look ! 13 refl))) (from ! (hop ! (look ! 19 refl) (fld ! state-at (stop !)))) (stores-state ! 0 h refl was s s-is) $
         assigns ! (of-opd ! (unit-lit !)) (from ! (stop !)) (init ! 21 refl (tt, tt)) $ closes-record ! tt (restate h s) (restated h was s s-is) $
         returns ! (look ! 20 refl) $ frees-all ! 4 (some _ ∷ some _ ∷ some _ ∷ some _ ∷ some _ ∷ some _ ∷ []) refl $
-        keep ! (0 ∷ 1 ∷ 2 ∷ []) $ by ! (exits (restate h s) (same (sym (zero-kept sz a (sym changes ∙ is-true c changed))) turned))))
+        keep ! (0 ∷ 1 ∷ 2 ∷ []) $ by ! (exits (restate h s) (same (sym (zero-kept sz a changed)) turned))))
         (λ kept. calls-plain ! fm changes-zero (known-of .1 .1 .0) (tt, tt, tt, (a, tt), (va ∷ [], tt)) tt (id⊢ 𝓤 _) (a-is, tt) (id⊢ 𝓤 _) (λ d. d ≡ changesZero a) (λ d e. id⊢ 𝓤 _) (local ! 18 refl (no-more !)) 9 refl refl (λ vd d moves d-is.
-        branches-on ! (look ! 9 refl) d d-is
+        branches-on ! (look ! 9 refl) d-is moves
         (λ moved. copies ! 0 refl (sz-in h ! was) (look ! 19 refl) (init ! 5 refl) $
         calls-plain ! fm zero-after (known-of .1 .1 .1 .0) (tt, tt, tt, (sz, (a, tt)), (number sz ∷ [], (va ∷ [], tt))) tt (id⊢ 𝓤 _) (sz-is h was, (a-is, tt)) (id⊢ 𝓤 _) (λ z. z ≡ zeroBy sz a) (λ z e. id⊢ 𝓤 _) (local ! 6 refl (local ! 18 refl (no-more !))) 7 refl refl (λ vz z zeroed-is z-is.
         assigns-to ! t-3 Post (of-opd ! (load ! (from ! (stop !)) (look ! 7 refl))) (from ! (hop ! (look ! 19 refl) (fld ! setup-at (fld ! figures-at (fld ! system-at (fld ! sz-at (stop !))))))) (stores-sz ! 0 h refl was z z-is) $
         assigns ! (of-opd ! (unit-lit !)) (from ! (stop !)) (init ! 21 refl (tt, tt)) $ closes-record ! tt (rezero h z) (rezeroed h was z z-is) $
         returns ! (look ! 20 refl) $ frees-all ! 4 (some _ ∷ some _ ∷ some _ ∷ some _ ∷ none ∷ none ∷ some _ ∷ some _ ∷ some _ ∷ []) refl $
-        keep ! (0 ∷ 1 ∷ 2 ∷ []) $ by ! (exits (rezero h z) (same zeroed-is (sym (state-unchanged (h .state) a (sym changes ∙ is-false c kept)))))))
+        keep ! (0 ∷ 1 ∷ 2 ∷ []) $ by ! (exits (rezero h z) (same zeroed-is (sym (state-unchanged (h .state) a kept))))))
         (λ rest. skips-to ! t-3 Post $
         assigns ! (of-opd ! (unit-lit !)) (from ! (stop !)) (init ! 21 refl (tt, tt)) $ closes-record ! tt h was $
         returns ! (look ! 20 refl) $ frees-all ! 4 (some _ ∷ some _ ∷ some _ ∷ some _ ∷ none ∷ none ∷ some _ ∷ []) refl $
-        keep ! (0 ∷ 1 ∷ 2 ∷ []) $ by ! (exits h (same (sym (zero-unchanged sz a (sym moves ∙ is-false d rest))) (sym (state-unchanged (h .state) a (sym changes ∙ is-false c kept)))))))))))))))))))
+        keep ! (0 ∷ 1 ∷ 2 ∷ []) $ by ! (exits h (same (sym (zero-unchanged sz a rest)) (sym (state-unchanged (h .state) a kept))))))))))))))))))
 
 module _ {M : Type 1} (𝓤 : URA M) (H : Heap 𝓤) (A : Atoms 𝓤) (W : Given 𝓤 H A) (mem : Memory → SProp 𝓤) (run : Routine → Fun 𝓤) where
   walks : (C : Calls 𝓤 H) (Λ : Loops 𝓤 H) → FmC 𝓤 H (W .laws) C → AllKnown 𝓤 H A mem run C callees → Walks 𝓤 H A f.ended stayed (WpFn 𝓤 H C Λ code.function) (f.clauses 𝓤 H A mem run)
