@@ -60,9 +60,9 @@ use Rattle.compensation.proofs.input_at.Met as input-at-thm
 use Rattle.compensation.proofs.cell_values as cell-values-of
 use Rattle.compensation.proofs.cell_values.Symbol as cell-values-def
 use Rattle.compensation.proofs.cell_values.Met as cell-values-thm
-use Rattle.compensation.proofs.compensate as compensate-of
-use Rattle.compensation.proofs.compensate.Symbol as compensate-def
-use Rattle.compensation.proofs.compensate.Met as compensate-thm
+use Rattle.compensation.proofs.values_from as values-from-of
+use Rattle.compensation.proofs.values_from.Symbol as values-from-def
+use Rattle.compensation.proofs.values_from.Met as values-from-thm
 use Rattle.state.proofs.take as take-of
 use Rattle.state.proofs.take.Symbol as take-def
 use Rattle.state.proofs.take.Met as take-thm
@@ -131,9 +131,9 @@ cell-values = record {
   makes = λ 𝓤 H A W κs. (LL.makes X.the-type X′.the-plain 𝓤 H A, (LL.makes L.the-type L′.the-plain 𝓤 H A, (LL.makes P.the-type P′.the-plain 𝓤 H A, tt)));
 }
 
-abbrev pub compensate : Plain
-compensate = record {
-  callee = record { name = compensate-def.name; routine = compensate-def.routine; ended = compensate-of.ended; clauses = compensate-of.clauses; met = compensate-thm.met; result = E′.mir; typed = λ 𝓤 H A W κs r v is. LL.lawful E.the-type E′.the-laws 𝓤 H A W .typed r _ is .0 };
+abbrev pub values-from : Plain
+values-from = record {
+  callee = record { name = values-from-def.name; routine = values-from-def.routine; ended = values-from-of.ended; clauses = values-from-of.clauses; met = values-from-thm.met; result = E′.mir; typed = λ 𝓤 H A W κs r v is. LL.lawful E.the-type E′.the-laws 𝓤 H A W .typed r _ is .0 };
   makes = λ 𝓤 H A W κs. (LL.makes X.the-type X′.the-plain 𝓤 H A, (LL.makes Y.the-type Y′.the-plain 𝓤 H A, (LL.makes K.the-type K′.the-plain 𝓤 H A, (sint-makes 𝓤 H A W w64, (sint-makes 𝓤 H A W w64, (uint-makes 𝓤 H A W w8, tt))))));
 }
 

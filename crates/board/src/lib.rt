@@ -37,7 +37,7 @@ pub extern "C" fn converter_reading(device: &mut Device, elec: i64, temp: i64, i
         device.setup.figures.linearity,
         input,
     );
-    let values = compensation::compensate(
+    let values = compensation::values_from(
         device.setup.figures.cell,
         device.setup.figures.system,
         cell,

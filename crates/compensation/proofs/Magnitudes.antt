@@ -19,7 +19,7 @@ use Rattle.figures.specs.declared.Linearity.{Linearity}
 use Rattle.figures.specs.declared.System.{System}
 use Rattle.compensation.specs.Filter.{elecMost}
 use Rattle.compensation.specs.Reading.{one, scaled, inputAt, yAt, rawCellAt, crawAt, cellAt, rawSystemFrom, srawFrom, sysFrom, cell}
-use Rattle.compensation.specs.Values.{cellValuesAt, CellInput, SystemInput, CompensateInput}
+use Rattle.compensation.specs.Values.{cellValuesAt, CellInput, SystemInput, ValuesInput}
 use Rattle.compensation.specs.declared.steps.Input.{Input}
 use Rattle.compensation.proofs.Held.{hold-within}
 
@@ -118,10 +118,10 @@ module _ (c : Calibration) (elec temp : ℤ) (ok : Acceptable c) (held : elec wi
   pub cell-magnitudes-of : CellMagnitudes (c .cell) (c .linearity) (inputAt (c .temperature) elec temp)
   cell-magnitudes-of = cell-magnitudes (c .cell) (c .linearity) (inputAt (c .temperature) elec temp) cell-input
 
-  pub compensate-input : CompensateInput (c .cell) (c .system) (cellValuesAt (c .cell) (c .linearity) (inputAt (c .temperature) elec temp))
+  pub values-input : ValuesInput (c .cell) (c .system) (cellValuesAt (c .cell) (c .linearity) (inputAt (c .temperature) elec temp))
   unfolding cellValuesAt crawAt
-  compensate-input = record { cell-ok = ok .cell-ok; system-in = record { acceptable = ok .system-ok; cell-in = cell-magnitudes-of .cell-within }; craw-held = refl }
+  values-input = record { cell-ok = ok .cell-ok; system-in = record { acceptable = ok .system-ok; cell-in = cell-magnitudes-of .cell-within }; craw-held = refl }
 
   pub system-magnitudes-of : SystemMagnitudes (c .system) (cell c elec temp)
   unfolding cellValuesAt
-  system-magnitudes-of = system-magnitudes (c .system) (cell c elec temp) (compensate-input .system-in)
+  system-magnitudes-of = system-magnitudes (c .system) (cell c elec temp) (values-input .system-in)

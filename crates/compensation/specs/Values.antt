@@ -69,7 +69,7 @@ pub record NetInput (s : System) (sraw : ℤ) : Type 0 where
   pub sraw-in : sraw within systemMost
 
 -- step 5: what steps 3 and 4 leave by acceptable figures
-pub record CompensateInput (c : Cell) (s : System) (v : CellValues) : Type 0 where
+pub record ValuesInput (c : Cell) (s : System) (v : CellValues) : Type 0 where
   pub cell-ok : CellAcceptable c
   pub system-in : SystemInput s (v .cell)
   pub craw-held : v .craw ≡ hold (c .cmin) (c .cmax) (v .raw)

@@ -10,5 +10,5 @@ pub use steps::CellValues;
 pub use steps::Input;
 pub use steps::Values;
 pub use steps::cell_values;
-pub use steps::compensate;
 pub use steps::input_at;
+pub use steps::values_from;

@@ -6,7 +6,7 @@ ghost use Rattle.arithmetic.specs.Table.{interpolated};
 ghost use Rattle.figures.specs.Acceptable.{linearities, TemperatureAcceptable};
 ghost use Rattle.compensation.specs.Hold.{hold};
 ghost use Rattle.compensation.specs.Reading.{one, scaled, inputAt};
-ghost use Rattle.compensation.specs.Values.{cellValuesAt, valuesFrom, CellInput, CompensateInput, GainInput, AdjustInput, CorrectInput, SystemInput, NetInput};
+ghost use Rattle.compensation.specs.Values.{cellValuesAt, valuesFrom, CellInput, ValuesInput, GainInput, AdjustInput, CorrectInput, SystemInput, NetInput};
 use crate::stat::stat_bits;
 use crate::tables::adjustments;
 use crate::tables::correction;
@@ -73,7 +73,7 @@ pub fn cell_values(cell: Cell, linearity: Linearity, input: Input) -> CellValues
 }
 
 // Step 5, and STAT.
-pub fn compensate(
+pub fn values_from(
     cell: Cell,
     system: System,
     values: CellValues,
@@ -81,7 +81,7 @@ pub fn compensate(
     temp: i64,
     integrity: u8,
 ) -> Values
-    requires { ⌜ CompensateInput cell system values ⌝ }
+    requires { ⌜ ValuesInput cell system values ⌝ }
     ensures { λ r. ⌜ r ≡ valuesFrom cell system values elec temp integrity ⌝ }
 {
     let raw_system = scaled_system(system, values.cell);

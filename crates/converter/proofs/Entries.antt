@@ -10,11 +10,11 @@ use Rattle.integers.specs.Within.{_within_}
 use Rattle.figures.specs.Acceptable.{TemperatureAcceptable}
 use Rattle.compensation.specs.Filter.{FilterInput, elecMost}
 use Rattle.compensation.specs.Reading.{inputAt}
-use Rattle.compensation.specs.Values.{cellValuesAt, valuesFrom, valuesAt, CellInput, CompensateInput}
+use Rattle.compensation.specs.Values.{cellValuesAt, valuesFrom, valuesAt, CellInput, ValuesInput}
 use Rattle.compensation.specs.declared.steps.CellValues.{CellValues}
 use Rattle.compensation.specs.declared.steps.Input.{Input}
 use Rattle.compensation.specs.declared.steps.Values.{Values}
-use Rattle.compensation.proofs.Magnitudes.{cell-input, compensate-input}
+use Rattle.compensation.proofs.Magnitudes.{cell-input, values-input}
 use Rattle.modbus.specs.Frame.{judged}
 use Rattle.modbus.specs.declared.frame.Frame.{Frame}
 use Rattle.modbus.specs.declared.frame.Frame.the-variants as asks
@@ -57,8 +57,8 @@ module _ {d : Device} (h : Reached d) (elec temp : ℤ) (integrity : ℕ) where
       corrects = rw (i-is, held-is) (cell-input (d .setup .figures) _ temp (reached-sound h .acceptable) kept)
 
       module _ {k : CellValues} (k-is : k ≡ cellValuesAt (d .setup .figures .cell) (d .setup .figures .linearity) i) where
-        pub compensates : CompensateInput (d .setup .figures .cell) (d .setup .figures .system) k
-        compensates = rw (k-is, i-is, held-is) (compensate-input (d .setup .figures) _ temp (reached-sound h .acceptable) kept)
+        pub scales : ValuesInput (d .setup .figures .cell) (d .setup .figures .system) k
+        scales = rw (k-is, i-is, held-is) (values-input (d .setup .figures) _ temp (reached-sound h .acceptable) kept)
 
         -- and what the state that is given last makes of the device
         pub joins : {v : Values} {s : State} → v ≡ valuesFrom (d .setup .figures .cell) (d .setup .figures .system) k held temp integrity → s ≡ takenWith (d .state) held temp v

@@ -72,7 +72,7 @@ impl Device {
         let held = state::held_after(figures.filter, before.readings, elec);
         let input = compensation::input_at(figures.temperature, held, temp);
         let cell = compensation::cell_values(figures.cell, figures.linearity, input);
-        let values = compensation::compensate(
+        let values = compensation::values_from(
             figures.cell,
             figures.system,
             cell,

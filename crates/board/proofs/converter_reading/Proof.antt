@@ -16,11 +16,11 @@ use Rattle.state.proofs.State.Laws as S′
 use Rattle.converter.specs.Reached.{Reached, Reading}
 use Rattle.converter.specs.declared.Device.{Device}
 use Rattle.converter.specs.declared.Outcome.{Outcome}
-use Rattle.converter.proofs.Entries.{refuses, filters, adjusts, corrects, compensates, joins}
+use Rattle.converter.proofs.Entries.{refuses, filters, adjusts, corrects, scales, joins}
 use Rattle.converter.proofs.Device as D
 use Rattle.board.proofs.Walk.{none, some, _≡_, refl, ℕ, _<_, _^_, [], _∷_, List, lit<, ℤ, URA, named, w8, w64, Val, vint, vptr, ofZ, SProp, ent, sep, emp, id⊢, GName, Lft, Share, ftrue, flft, fobs, fbor, Memory, Routine, Heap, Calls, Loops, WpFn, Tables, Atoms, Fun, factI, givenOf, tables, tablesOf, Given, ‵, _⊛_, _$_, _∵_, !, qed, by, move, keep, drop, split, join, fsplit, fsplit3, fjoin, fjoin3, feqI, suffices, frame, done, look, init, stop, hop, fld, from, load, lit, of-opd, no-more, assigns, first, returns, returns-within, enter, alloc1, alloc0, params1, pass1, pass0, store, Body, FmC, fmOf, WpFn-mono, owns, Is, mem, uint-vals, uint-tells, uint-makes, sint-vals, sint-tells, sint-makes, sint-lawful, u8, i64, RefT, MutRef, ptr-vals, mut-tells, plain, owned, nothing, onEntry, Meets, tripleOf, entered, says, needs, Stays, stay-ref, stay-none, walkOf, AllGo, goes-none, goes-ref, Walks, ends-at, walked, walk-meets, yes}
 use Rattle.board.proofs.Call.{Callee, AllKnown, all-known, calls-plain, local}
-use Rattle.board.proofs.Callees.{bad-reading, held-after, input-at, cell-values, compensate, take}
+use Rattle.board.proofs.Callees.{bad-reading, held-after, input-at, cell-values, values-from, take}
 use Rattle.board.proofs.Branch.{branches-on, skips-to}
 use Rattle.board.proofs.Locals.{frees-all}
 use Rattle.board.proofs.Kept.{number, mach-state, mach-cell, mach-temperature, mach-linearity, mach-system, mach-filter, mach-readings, restate, restated, five-is, readings-is, state-is}
@@ -35,7 +35,7 @@ abbrev stayed : Stays (f.ended .signature .params) (f.ended .kept)
 stayed = (stay-ref (0 ∷ []) tt (plain (λ _. D.the-row)), (stay-none (λ _. i64) yes, (stay-none (λ _. i64) yes, (stay-none (λ _. u8) yes, tt))))
 
 abbrev callees : List Callee
-callees = bad-reading .callee ∷ held-after .callee ∷ input-at .callee ∷ cell-values .callee ∷ compensate .callee ∷ take .callee ∷ []
+callees = bad-reading .callee ∷ held-after .callee ∷ input-at .callee ∷ cell-values .callee ∷ values-from .callee ∷ take .callee ∷ []
 
 module _ {M : Type 1} (𝓤 : URA M) (H : Heap 𝓤) (A : Atoms 𝓤) (W : Given 𝓤 H A) (at-mem : Memory → SProp 𝓤) (run : Routine → Fun 𝓤) (κ : Lft) (q : Share) (b o : ℕ) (γ : GName) (h : Device) (z t : ℤ) (n : ℕ) (z-is : Is i64 z (vint w64 (ofZ w64 z) ∷ [])) (t-is : Is i64 t (vint w64 (ofZ w64 t) ∷ [])) (n-fits : n < 2 ^ 8) (reached : Reached h) where
   abbrev x : RefT Device × (ℤ × (ℤ × (ℕ × Unit {0})))
@@ -86,8 +86,8 @@ module _ {M : Type 1} (𝓤 : URA M) (H : Heap 𝓤) (A : Atoms 𝓤) (W : Given
         (five-is h was .0, (five-is h was .1 .1 .0, (i-fits, tt))) (factI 𝓤 _ (emp 𝓤) (corrects reached z t n good k-is i-is)) (λ c. c ≡ cellValuesAt (h .setup .figures .cell) (h .setup .figures .linearity) i) (λ c e. id⊢ 𝓤 _)
         (local ! 14 refl (local ! 12 refl (local ! 28 refl (no-more !)))) 25 refl refl (λ vc c c-is c-fits.
         copies ! 0 refl (cell-in h ! was) (look ! 37 refl) (store ! 13 refl) $ copies ! 0 refl (system-in h ! was) (look ! 37 refl) (init ! 9 refl) $
-        calls-plain ! fm compensate (known-of .1 .1 .1 .1 .0) (tt, tt, tt, (h .setup .figures .cell, (h .setup .figures .system, (c, (k, (t, (n, tt)))))), (mach-cell (h .setup .figures .cell) ∷ [], (mach-system (h .setup .figures .system) ∷ [], (vc ∷ [], (vk ∷ [], (number t ∷ [], (vint w8 n ∷ [], tt))))))) tt (id⊢ 𝓤 _)
-        (five-is h was .0, (five-is h was .1 .1 .1 .0, (c-fits, (k-fits, (t-is, ((refl, n-fits), tt)))))) (factI 𝓤 _ (emp 𝓤) (compensates reached z t n good k-is i-is c-is)) (λ w. w ≡ valuesFrom (h .setup .figures .cell) (h .setup .figures .system) c k t n) (λ w e. id⊢ 𝓤 _)
+        calls-plain ! fm values-from (known-of .1 .1 .1 .1 .0) (tt, tt, tt, (h .setup .figures .cell, (h .setup .figures .system, (c, (k, (t, (n, tt)))))), (mach-cell (h .setup .figures .cell) ∷ [], (mach-system (h .setup .figures .system) ∷ [], (vc ∷ [], (vk ∷ [], (number t ∷ [], (vint w8 n ∷ [], tt))))))) tt (id⊢ 𝓤 _)
+        (five-is h was .0, (five-is h was .1 .1 .1 .0, (c-fits, (k-fits, (t-is, ((refl, n-fits), tt)))))) (factI 𝓤 _ (emp 𝓤) (scales reached z t n good k-is i-is c-is)) (λ w. w ≡ valuesFrom (h .setup .figures .cell) (h .setup .figures .system) c k t n) (λ w e. id⊢ 𝓤 _)
         (local ! 14 refl (local ! 10 refl (local ! 26 refl (local ! 30 refl (local ! 34 refl (local ! 32 refl (no-more !))))))) 23 refl refl (λ vw w w-is w-fits.
         copies ! 0 refl (state-in h ! was) (look ! 37 refl) (init ! 5 refl) $
         calls-plain ! fm take (known-of .1 .1 .1 .1 .1 .0) (tt, tt, tt, (h .state, (k, (t, (w, tt)))), (mach-state (h .state) ∷ [], (vk ∷ [], (number t ∷ [], (vw ∷ [], tt))))) tt (id⊢ 𝓤 _)
@@ -117,4 +117,4 @@ converter-reading-spec 𝓤 H 𝓜 𝓖 𝓡 =
     (tables 𝓤 H 𝓜 𝓡 code.env .C) (tables 𝓤 H 𝓜 𝓡 code.env .Λ) #board·converter-reading code.function (code.unfolded 𝓤 H 𝓜 𝓡)
     (meets 𝓤 H (𝓖 .A) (givenOf 𝓤 H 𝓜 𝓖) (𝓜 .mem) (𝓡 .run) (tablesOf 𝓤 H 𝓜 (tables 𝓤 H 𝓜 𝓡 code.env))
     (all-known 𝓤 H 𝓜 𝓖 𝓡 code.env callees
-    (code.calls-state·bad-reading, (code.calls-state·held-after, (code.calls-compensation·input-at, (code.calls-compensation·cell-values, (code.calls-compensation·compensate, (code.calls-state·take, tt))))))))
+    (code.calls-state·bad-reading, (code.calls-state·held-after, (code.calls-compensation·input-at, (code.calls-compensation·cell-values, (code.calls-compensation·values-from, (code.calls-state·take, tt))))))))

@@ -11,7 +11,7 @@ use Rattle.compensation.specs.Reading.{inputAt}
 use Rattle.compensation.specs.Values.{cellValuesAt, valuesFrom}
 use Rattle.state.specs.Reading.{badReading, heldAfter}
 use Rattle.converter.specs.declared.Device.{Device}
-use Rattle.converter.proofs.Entries.{refuses, filters, adjusts, corrects, compensates, joins}
+use Rattle.converter.proofs.Entries.{refuses, filters, adjusts, corrects, scales, joins}
 use Rattle.converter.proofs.Device.reading.Statement.{statement}
 use Rattle.converter.proofs.Device.reading.Tie as tie
 
@@ -62,11 +62,11 @@ cell-values-requires c κs =
     let s = start-of (c .before) in
     corrects (s .pre) (s .args .elec) (s .args .temp) (s .args .integrity) (good (else-of (c .before))) (held-is (c .before)) (input-is c)
 
-compensate-requires : tie.Need-compensate-requires
-compensate-requires c κs =
+values-from-requires : tie.Need-values-from-requires
+values-from-requires c κs =
     let i = c .before in
     let s = start-of (i .before) in
-    compensates (s .pre) (s .args .elec) (s .args .temp) (s .args .integrity) (good (else-of (i .before))) (held-is (i .before)) (input-is i) (c .cell-values .ensures)
+    scales (s .pre) (s .args .elec) (s .args .temp) (s .args .integrity) (good (else-of (i .before))) (held-is (i .before)) (input-is i) (c .cell-values .ensures)
 
 take-requires : tie.Need-take-requires
 take-requires c κs = search needs
@@ -77,8 +77,8 @@ returns-2 c =
     let i = v .before .before in
     let s = start-of (i .before) in
     joins (s .pre) (s .args .elec) (s .args .temp) (s .args .integrity) (good (else-of (i .before))) (held-is (i .before)) (input-is i) (v .before .cell-values .ensures)
-    (rw (toZ-ofZ w64 _ (s .fits .temp)) at (v .compensate .ensures)) (rw (toZ-ofZ w64 _ (s .fits .temp)) at (c .take .ensures))
+    (rw (toZ-ofZ w64 _ (s .fits .temp)) at (v .values-from .ensures)) (rw (toZ-ofZ w64 _ (s .fits .temp)) at (c .take .ensures))
 
 pub reading-spec : {M : Type 1} → statement M
 reading-spec =
-    tie.close (tie.spec bad-reading-requires returns held-after-requires input-at-requires cell-values-requires compensate-requires take-requires returns-2)
+    tie.close (tie.spec bad-reading-requires returns held-after-requires input-at-requires cell-values-requires values-from-requires take-requires returns-2)

@@ -1,4 +1,4 @@
--- `compensate` meets its contract: each call gives its part of step 5, and the magnitudes (Magnitudes.antt) meet what the next one
+-- `values_from` meets its contract: each call gives its part of step 5, and the magnitudes (Magnitudes.antt) meet what the next one
 -- asks. Assumes nothing.
 use mathlib.Core.Path.{_≡_, refl}
 use Prim.Native.Nat.{ℕ}
@@ -15,8 +15,8 @@ use Rattle.compensation.specs.Reading.{rawSystemFrom, srawFrom, sysFrom}
 use Rattle.compensation.specs.Stat.{statOf}
 use Rattle.compensation.specs.Values.{valuesFrom}
 use Rattle.compensation.proofs.Magnitudes.{Holds, SystemMagnitudes, system-magnitudes}
-use Rattle.compensation.proofs.steps.compensate.Statement.{statement}
-use Rattle.compensation.proofs.steps.compensate.Tie as tie
+use Rattle.compensation.proofs.steps.values_from.Statement.{statement}
+use Rattle.compensation.proofs.steps.values_from.Tie as tie
 
 in-range : (s : tie.Start) → SystemMagnitudes (s .args .system) (s .args .values .cell)
 in-range s = system-magnitudes (s .args .system) (s .args .values .cell) (s .pre .system-in)
@@ -72,8 +72,8 @@ returns c =
     ((simp (raw-is, craw-is, toZ-ofZ w64 (a .elec) (s .fits .elec), toZ-ofZ w64 (a .temp) (s .fits .temp), raw-held (n .before .before), sraw-held (n .before)) at (c .before .stat-bits .ensures))
     (a .cell) (a .system) (<-≤ (s .pre .cell-ok .ordered)) (<-≤ (s .pre .system-in .acceptable .ordered)) (s .pre .craw-held) refl)
 
-pub compensate-spec : {M : Type 1} → statement M
-compensate-spec =
+pub values-from-spec : {M : Type 1} → statement M
+values-from-spec =
     tie.close
     (tie.spec
     scaled-system-requires
