@@ -17,7 +17,7 @@ use ghost.Atoms.{Atoms}
 use sound.WpLaws.{FmC}
 use types.Kit.{Given, Item, mean, nth, put, ‵, raw, some, later, _⊛_, _$_, Post, runs, lands, Seq, Step, move, drop, use0, use1, split, pick, await}
 use types.Run.{Writes, Opds, land, from, stop, load, look, and-then, init}
-use contract.Monad.{Fun, fact, factI}
+use contract.Monad.{Fun, fact}
 use contract.Lifetimes.{Lfts}
 use contract.Running.{GhostRules, Running, tables}
 use denote.Laws.{Is, Ises, Are, Makess, owns-make, shows}
@@ -68,10 +68,6 @@ pub all-known : {M : Type 1} (𝓤 : URA M) (H : Heap 𝓤) (𝓜 : Model 𝓤 H
 all-known 𝓤 H 𝓜 𝓖 𝓡 γ [] means = tt
 all-known 𝓤 H 𝓜 𝓖 𝓡 γ (g ∷ gs) means = (record { meets = cited 𝓤 H (triple 𝓤 H (𝓖 .A) (𝓜 .mem) (𝓡 .run) g) 𝓜 𝓡 γ (g .name) (g .routine) (means .0) (g .met 𝓤 H 𝓜 𝓖 𝓡) }, all-known 𝓤 H 𝓜 𝓖 𝓡 γ gs (means .1))
 
--- what two clauses of a `requires` ask
-pub facts-made : {M : Type 1} (𝓤 : URA M) {φ ψ : Type 0} → φ × ψ → ent 𝓤 (emp 𝓤) (sep 𝓤 (fact 𝓤 φ) (fact 𝓤 ψ))
-facts-made 𝓤 {φ} {ψ} p = via 𝓤 (sep 𝓤 (emp 𝓤) (emp 𝓤)) (emp∗ 𝓤 (emp 𝓤)) (mono∗ 𝓤 (factI 𝓤 φ (emp 𝓤) (p .0)) (factI 𝓤 ψ (emp 𝓤) (p .1)))
-
 module _ {M : Type 1} {𝓤 : URA M} {H : Heap 𝓤} {A : Atoms 𝓤} {K : Type 0} {W : Given 𝓤 H A} {Γ : List (Item 𝓤)} {E : Env 𝓤 H} {C : Calls 𝓤 H} {Λ : Loops 𝓤 H} {q : Post 𝓤 H} {i : ℕ} {rest : Body} where
   -- a call's result, into its local
   keeps : K → (n : ℕ) {τ : Ty} {b o : ℕ} {v : Val} → nth 𝓤 H A n Γ ≡ ‵ (froom τ b o) → spotOf 𝓤 H E i ≡ (τ, b, o) → Holds (hasTy τ v) × WT v → Step K W (put 𝓤 H A n (‵ (fat fullShare τ b o v)) Γ) (runs C Λ E rest q) Γ (lands C Λ E (place i []) v rest q)
@@ -97,16 +93,6 @@ module _ {M : Type 1} {𝓤 : URA M} {H : Heap 𝓤} {A : Atoms 𝓤} {K : Type 
       split t $ move t (1 ∷ []) $ use1 W (raw (fact 𝓤 (φ r ws))) (told r ws) $ heard t (φ r ws) (λ e.
       keeps t (suc (suc n)) is-room spot (g .typed 𝓤 H A W (x .0) r v is) $ k v r ws e is)))))
 
-  -- where nothing is said of last values
-  pub calls-lent : K → FmC 𝓤 H (W .laws) C → (g : Callee) → Known 𝓤 H A mem run C g
-      → (x : Bound 𝓤 H A (g .ended .signature)) (γ : g .clauses 𝓤 H A mem run (x .0) (x .3) .ghost) → {j : Item 𝓤} → ent 𝓤 (mean 𝓤 H A j) (triple 𝓤 H A mem run g .pre (x, γ))
-      → (φ : Res (g .ended .signature) (x .0) → Type 0) → ((r : Res (g .ended .signature) (x .0)) (e : AtExit (g .ended) (x .0)) → ent 𝓤 (g .clauses 𝓤 H A mem run (x .0) (x .3) .ensures γ r e) (fact 𝓤 (φ r)))
-      → Opds K W (raw (triple 𝓤 H A mem run g .pre (x, γ)) ∷ Γ) E xs (passed 𝓤 H A (g .ended .signature) x)
-      → (n : ℕ) {b o : ℕ} → nth 𝓤 H A n Γ ≡ ‵ (froom (g .result) b o) → spotOf 𝓤 H E i ≡ (g .result, b, o)
-      → ((v : Val) (r : Res (g .ended .signature) (x .0)) → φ r → Is (typeAt (g .ended .signature .result) (x .0)) r (v ∷ []) → Seq K W (raw (alive 𝓤 H A (g .ended .signature) (x .0) (x .1)) ∷ put 𝓤 H A n (‵ (fat fullShare (g .result) b o v)) Γ) (runs C Λ E rest q))
-      → Seq K W (j ∷ Γ) (runs C Λ E (seq (call (g .name) xs (place i [])) rest) q)
-  calls-lent t fm g known x γ asks φ told os n is-room spot k = calls-out t fm g known x γ asks (λ r ws. φ r) (λ r ws. told r (atExit (g .ended) (x .0) (x .3) ws)) os n is-room spot (λ v r ws e is. drop t $ k v r e is)
-
   -- from nothing, where there are no lifetimes
   pub calls-plain : K → FmC 𝓤 H (W .laws) C → (g : Plain) → Known 𝓤 H A mem run C (g .callee)
       → (x : Bound 𝓤 H A (g .callee .ended .signature)) (γ : g .callee .clauses 𝓤 H A mem run (x .0) (x .3) .ghost) → ent 𝓤 (emp 𝓤) (alive 𝓤 H A (g .callee .ended .signature) (x .0) (x .1))
@@ -121,7 +107,7 @@ module _ {M : Type 1} {𝓤 : URA M} {H : Heap 𝓤} {A : Atoms 𝓤} {K : Type 
       let Rs = typesAt (g .callee .ended .signature .params) (x .0) in
       let both = via 𝓤 (sep 𝓤 (emp 𝓤) (emp 𝓤)) (emp∗ 𝓤 (emp 𝓤)) (mono∗ 𝓤 lives (owns-make 𝓤 H A Rs (Ises Rs) (g .makes 𝓤 H A W (x .0)) (x .3) (x .4) are)) in
       use0 W (raw (triple 𝓤 H A mem run (g .callee) .pre (x, γ))) (via 𝓤 (sep 𝓤 (emp 𝓤) (emp 𝓤)) (emp∗ 𝓤 (emp 𝓤)) (mono∗ 𝓤 both asked)) $
-      calls-lent t fm (g .callee) known x γ (id⊢ 𝓤 _) φ told os n is-room spot (λ v r e is. drop t $ k v r e is)
+      calls-out t fm (g .callee) known x γ (id⊢ 𝓤 _) (λ r ws. φ r) (λ r ws. told r (atExit (g .callee .ended) (x .0) (x .3) ws)) os n is-room spot (λ v r ws e is. drop t $ drop t $ k v r e is)
 
 module _ {M : Type 1} {𝓤 : URA M} {H : Heap 𝓤} {A : Atoms 𝓤} {K : Type 0} {W : Given 𝓤 H A} {Γ : List (Item 𝓤)} {E : Env 𝓤 H} {i : ℕ} where
   -- an operand that is a local, whose cell is entry n

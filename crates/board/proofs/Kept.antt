@@ -61,9 +61,6 @@ mach-state s = LL.val S.the-type S′.the-laws s
 abbrev pub IsDevice : Device → Type 0
 IsDevice d = Is D.the-row d (mach d ∷ [])
 
-abbrev pub IsFigures : Calibration → Type 0
-IsFigures c = Is F.the-row c (mach-figures c ∷ [])
-
 abbrev pub IsState : State → Type 0
 IsState s = Is S.the-row s (mach-state s ∷ [])
 
@@ -82,9 +79,6 @@ known s v is = subst (Is S.the-row s) (state-tells s _ is) is
 module _ {M : Type 1} (𝓤 : URA M) (H : Heap 𝓤) (A : Atoms 𝓤) (W : Given 𝓤 H A) where
   pub typed : (d : Device) → IsDevice d → Holds (hasTy D′.mir (mach d)) × WT (mach d)
   typed d is = LL.lawful D.the-type D′.the-laws 𝓤 H A W .typed d _ is .0
-
-  pub figures-typed : (c : Calibration) → IsFigures c → Holds (hasTy F′.mir (mach-figures c)) × WT (mach-figures c)
-  figures-typed c is = LL.lawful F.the-type F′.the-laws 𝓤 H A W .typed c _ is .0
 
   pub state-typed : (s : State) → IsState s → Holds (hasTy S′.mir (mach-state s)) × WT (mach-state s)
   state-typed s is = LL.lawful S.the-type S′.the-laws 𝓤 H A W .typed s _ is .0
@@ -167,10 +161,6 @@ abbrev pub restate : Device → State → Device
 restate d s = record { setup = d .setup; state = s }
 
 module _ (d : Device) (is : IsDevice d) where
-  pub figures-is : IsFigures (d .setup .figures)
-  unfolding mach mach-figures
-  figures-is = LL.owed U.the-type U′.the-laws (d .setup) _ (LL.owed D.the-type D′.the-laws d _ is .0) .0
-
   pub state-is : IsState (d .state)
   unfolding mach mach-state
   state-is = LL.owed D.the-type D′.the-laws d _ is .1 .0

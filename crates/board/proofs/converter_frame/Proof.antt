@@ -19,7 +19,7 @@ use Rattle.converter.proofs.Device as D
 use Rattle.converter.proofs.bus.Answered as B
 use Rattle.converter.proofs.bus.Answered.Laws as B′
 use Rattle.board.proofs.Walk.{none, some, _≡_, refl, sym, ℕ, [], _∷_, List, length, URA, named, Val, vptr, SProp, ent, id⊢, GName, Lft, Share, ftrue, flft, fres, Memory, Routine, Heap, Calls, Loops, WpFn, Tables, Atoms, Fun, givenOf, tables, tablesOf, Given, Item, group, ‵, _⊛_, ⋆, _$_, _∵_, !, qed, by, move, keep, drop, use1, split, join, fsplit, fsplit3, fjoin, feqL, suffices, frame, done, look, init, stop, hop, fld, from, load, addr, of-opd, and-then, no-more, assigns, first, returns, returns-within, enter, alloc1, alloc0, params1, pass1, pass0, agg, whole, sub, look-in, FmC, fmOf, WpFn-mono, owns, Is, mem, u8, RefT, MutRef, ptr-vals, mut-tells, slice-vals, MutSlice, ShrSlice, Room, finally, mut-slice-tells, shr-slice-tells, shr-slice-copy, plain, shrSliceOf, owned, nothing, onEntry, Meets, tripleOf, entered, gave-ref, goes-gave-ref, says, needs, Stays, stay-dropped, gave-slice, walkOf, AllGo, goes-dropped, goes-gave-slice, Walks, ends-at, walked, walk-meets, yes}
-use Rattle.board.proofs.Call.{Callee, AllKnown, all-known, calls-out, calls-lent, calls-plain, local}
+use Rattle.board.proofs.Call.{Callee, AllKnown, all-known, calls-out, calls-plain, local}
 use Rattle.board.proofs.Callees.{is-read, is-obeyed}
 use Rattle.board.proofs.Lent.{slice, bytes, judge, to-judge, judge-asks, answer, to-answer, answer-asks, acknowledge, to-acknowledge, acknowledge-asks, refuse, to-refuse, refuse-asks, obey, to-obey, obey-asks}
 use Rattle.board.proofs.Branch.{branches-on, skips-to}
@@ -81,13 +81,11 @@ module _ {M : Type 1} (𝓤 : URA M) (H : Heap 𝓤) (A : Atoms 𝓤) (W : Given
         opens-record ! tt h (λ was.
         -- [the record's cell; the open borrow; obs; auth; the other tokens; the reply; true; the frame; _19; …]
         assigns ! (of-opd ! (load ! (from ! (fld ! refl (stop !))) (look-in ! 40 (sub ! 1 refl (whole !))))) (from ! (stop !)) (init ! 36 refl (tt, record { fits = room-r .0 })) $
-        copies ! 0 refl (station-in h ! was) (look ! 44 refl) (init ! 34 refl) $
-        move ! (4 ∷ []) $ split ! $ move ! (8 ∷ []) $ use1 W (bytes 𝓤 κ₁ xf ⊛ bytes 𝓤 κ₁ xf) (shr-slice-copy 𝓤 H A W (named 0) κ₁ u8 .twice xf (slice xf ∷ [])) $ split ! $ move ! (2 ∷ 0 ∷ []) $ join ! $
+        copies ! 0 refl (station-in h ! was) (look ! 44 refl) (init ! 34 refl) $ move ! (4 ∷ []) $ split ! $ move ! (8 ∷ []) $ use1 W (bytes 𝓤 κ₁ xf ⊛ bytes 𝓤 κ₁ xf) (shr-slice-copy 𝓤 H A W (named 0) κ₁ u8 .twice xf (slice xf ∷ [])) $ split ! $ move ! (2 ∷ 0 ∷ []) $ join ! $
         -- [the token and a copy of the frame; the frame; the reply's token; the record's cell; the open borrow; obs; auth; the reply; true; _19; …]
-        calls-lent ! fm judge (known-of .0) (to-judge 𝓤 H A κ₁ q₁ xf room (h .setup .station)) tt (judge-asks 𝓤 H A W at-mem run κ₁ q₁ xf room (h .setup .station) (room-r .0) (station-fits h was)) (λ a. a ≡ judged (xf .now) room (h .setup .station)) (λ a e. id⊢ 𝓤 _)
-        (local ! 43 refl (local ! 37 refl (local ! 35 refl (no-more !)))) 38 refl refl (λ va a asked a-is.
-        calls-plain ! fm is-read (known-of .1 .0) (tt, tt, tt, (a, tt), (va ∷ [], tt)) tt (id⊢ 𝓤 _) (a-is, tt) (id⊢ 𝓤 _) (λ c. c ≡ isRead a) (λ c e. id⊢ 𝓤 _) (local ! 40 refl (no-more !)) 33 refl refl (λ vc c reads c-is.
-        first ! $ branches-on ! (look ! 33 refl) c-is reads
+        calls-out ! fm judge (known-of .0) (to-judge 𝓤 H A κ₁ q₁ xf room (h .setup .station)) tt (judge-asks 𝓤 H A W at-mem run κ₁ q₁ xf room (h .setup .station) (room-r .0) (station-fits h was)) (λ a _. a ≡ judged (xf .now) room (h .setup .station)) (λ a _. id⊢ 𝓤 _)
+        (local ! 43 refl (local ! 37 refl (local ! 35 refl (no-more !)))) 38 refl refl (λ va a _ asked a-is. drop ! $
+        calls-plain ! fm is-read (known-of .1 .0) (tt, tt, tt, (a, tt), (va ∷ [], tt)) tt (id⊢ 𝓤 _) (a-is, tt) (id⊢ 𝓤 _) (λ c. c ≡ isRead a) (λ c e. id⊢ 𝓤 _) (local ! 40 refl (no-more !)) 33 refl refl (λ vc c reads c-is. first ! $ branches-on ! (look ! 33 refl) c-is reads
         (λ read. copies ! 3 refl (state-in h ! was) (look ! 45 refl) (init ! 31 refl) $ copies ! 3 refl (sz-in h ! was) (look ! 45 refl) (init ! 29 refl) $
         assigns ! (addr ! (from ! (fld ! refl (hop ! (look-in ! 41 (sub ! 0 refl (whole !))) (stop !))))) (from ! (stop !)) (init ! 27 refl (tt, tt)) $
         assigns ! (agg ! (and-then ! (load ! (from ! (stop !)) (look ! 27 refl)) (and-then ! (load ! (from ! (fld ! refl (stop !))) (look-in ! 41 (sub ! 1 refl (whole !)))) (no-more !)))) (from ! (stop !)) (init ! 25 refl (tt, (tt, (record { fits = room-r .0 }, tt)))) $
@@ -102,8 +100,7 @@ module _ {M : Type 1} (𝓤 : URA M) (H : Heap 𝓤) (A : Atoms 𝓤) (W : Given
         -- [the record's last value; its token; the other tokens; the last list; true; true; _19; …]
         returns-within ! Post refl (look ! 44 refl) $ frees-all ! 6 (some _ ∷ some _ ∷ some _ ∷ some _ ∷ some _ ∷ some _ ∷ some _ ∷ some _ ∷ some _ ∷ some _ ∷ some _ ∷ some _ ∷ []) refl $
         keep ! (0 ∷ 1 ∷ 2 ∷ 3 ∷ []) $ by ! (exits r w h (zs .1 .1 .1 .1 .0) r-is (served a r (zs .1 .1 .1 .1 .0) asked refl e (sym (read-unobeyed h a read))) l))))
-        (λ no-read. skips-to ! t-6 Post $
-        copies ! 3 refl (readings-in h ! was) (look ! 45 refl) (init ! 21 refl) $
+        (λ no-read. skips-to ! t-6 Post $ copies ! 3 refl (readings-in h ! was) (look ! 45 refl) (init ! 21 refl) $
         calls-plain ! fm is-obeyed (known-of .1 .1 .1 .0) (tt, tt, tt, (h .state .readings, (a, tt)), (mach-readings (h .state .readings) ∷ [], (va ∷ [], tt))) tt (id⊢ 𝓤 _) (readings-is h was, (a-is, tt)) (id⊢ 𝓤 _) (λ d. d ≡ isObeyed (h .state .readings) a) (λ d e. id⊢ 𝓤 _)
         (local ! 22 refl (local ! 40 refl (no-more !))) 23 refl refl (λ vd d tested d-is. first ! $ branches-on ! (look ! 23 refl) d-is tested
         (λ obeys. assigns ! (addr ! (from ! (hop ! (look ! 45 refl) (stop !)))) (from ! (stop !)) (init ! 17 refl (tt, tt)) $ move ! (3 ∷ 4 ∷ 5 ∷ 6 ∷ []) $ closes-record ! tt h was $ group ! 3 $
@@ -127,8 +124,7 @@ module _ {M : Type 1} (𝓤 : URA M) (H : Heap 𝓤) (A : Atoms 𝓤) (W : Given
         -- [what `refuse` asks; the record's cell; the open borrow; obs; auth; true; _19; …]
         calls-out ! fm refuse (known-of .1 .1 .1 .1 .1 .1 .0) (to-refuse 𝓤 H A κ₁ κ₂ q₁ q₂ xf xr a va) tt (refuse-asks 𝓤 H A W at-mem run κ₁ κ₂ q₁ q₂ xf xr a va a-is) (λ r zs. Answering (Refused (refusalOf a)) (xf .now) (xr .now) (zs .1 .1 .0) r) (λ r zs. id⊢ 𝓤 _)
         (local ! 36 refl (local ! 40 refl (local ! 6 refl (no-more !)))) 43 refl refl (λ w r zs e r-is. fsplit ! $ drop ! $ fsplit ! $ drop ! $ fsplit ! $ fsplit ! $ move ! (1 ∷ []) $ feqL ! (λ l. move ! (2 ∷ []) $
-        move ! (3 ∷ 4 ∷ 5 ∷ 6 ∷ []) $ gives-record ! tt h was $
-        returns ! (look ! 44 refl) $ frees-all ! 6 (some _ ∷ some _ ∷ some _ ∷ some _ ∷ some _ ∷ some _ ∷ some _ ∷ some _ ∷ none ∷ none ∷ none ∷ none ∷ some _ ∷ some _ ∷ none ∷ none ∷ none ∷ none ∷ some _ ∷ some _ ∷ []) refl $
+        move ! (3 ∷ 4 ∷ 5 ∷ 6 ∷ []) $ gives-record ! tt h was $ returns ! (look ! 44 refl) $ frees-all ! 6 (some _ ∷ some _ ∷ some _ ∷ some _ ∷ some _ ∷ some _ ∷ some _ ∷ some _ ∷ none ∷ none ∷ none ∷ none ∷ some _ ∷ some _ ∷ none ∷ none ∷ none ∷ none ∷ some _ ∷ some _ ∷ []) refl $
         keep ! (0 ∷ 1 ∷ 2 ∷ 3 ∷ []) $ by ! (exits r w h (zs .1 .1 .0) r-is (served a r (zs .1 .1 .0) asked (answer-refused (h .state) _ a no-read no-more-asked) e (sym (unobeyed h a no-more-asked))) l)))))))))))))))))))))))))))))
 
 module _ {M : Type 1} (𝓤 : URA M) (H : Heap 𝓤) (A : Atoms 𝓤) (W : Given 𝓤 H A) (mem : Memory → SProp 𝓤) (run : Routine → Fun 𝓤) where

@@ -6,7 +6,7 @@ use Rattle.converter.specs.declared.Outcome.{Outcome}
 use Rattle.converter.proofs.Device as D
 use Rattle.converter.proofs.Outcome.Laws as S′
 use Rattle.board.proofs.Walk.{some, refl, ℕ, _<_, _^_, [], _∷_, List, length, URA, fullShare, named, w8, Val, vint, vptr, SProp, ent, emp, via, fst∗, id⊢, GName, Lft, Share, ftrue, fat, flft, fobs, fbor, Memory, Routine, Heap, Calls, Loops, WpFn, Tables, Atoms, Fun, givenOf, tables, tablesOf, Given, Item, ‵, ⋆, _⊛_, _$_, _∵_, !, qed, by, move, keep, drop, split, join, rewrite, fsplit, fsplit3, fjoin, fjoin3, feqI, suffices, frame, done, look, store, init, stop, hop, fld, from, load, of-opd, no-more, assigns, returns, enter, alloc1, alloc0, params1, pass1, pass0, look-in, Body, FmC, fmOf, WpFn-mono, owns, Is, mem, uint-vals, uint-tells, uint-makes, u8, RefT, MutRef, ptr-vals, mut-tells, sliceVal, slice-vals, ShrSlice, Room, shr-slice-tells, plain, shrSliceOf, owned, nothing, onEntry, Meets, tripleOf, entered, says, Stays, stay-ref, stay-none, stay-dropped, walkOf, AllGo, goes-none, goes-ref, goes-dropped, Walks, ends-at, walked, walk-meets, yes}
-use Rattle.board.proofs.Call.{Callee, triple, AllKnown, all-known, calls-lent, local}
+use Rattle.board.proofs.Call.{Callee, triple, AllKnown, all-known, calls-out, local}
 use Rattle.board.proofs.Locals.{frees-all}
 use Rattle.board.proofs.Kept.{typed}
 use Rattle.board.proofs.Record.{opens-record, closes-record}
@@ -74,7 +74,7 @@ module _ {M : Type 1} (𝓤 : URA M) (H : Heap 𝓤) (A : Atoms 𝓤) (W : Given
         -- [obs; the borrow; its token; the sheet's; the sheet; the station's; _4; …; _3; …; _2; …; _1; …; room for _0; …]
         opens-record ! tt h (λ was.
         -- [the record's cell; the open borrow; obs; auth; the sheet's token; the sheet; the station's; _4; …]
-        move ! (4 ∷ 5 ∷ []) $ join ! $ calls-lent ! fm make (known .0) ((κ₁, tt), (q₁, tt), tt, args, (vs ∷ [], (vint w8 n ∷ [], tt))) tt asks Said (λ r e. id⊢ 𝓤 _) (local ! 10 refl (local ! 8 refl (no-more !))) 5 refl refl (λ v r e is.
+        move ! (4 ∷ 5 ∷ []) $ join ! $ calls-out ! fm make (known .0) ((κ₁, tt), (q₁, tt), tt, args, (vs ∷ [], (vint w8 n ∷ [], tt))) tt asks (λ r _. Said r) (λ r _. id⊢ 𝓤 _) (local ! 10 refl (local ! 8 refl (no-more !))) 5 refl refl (λ v r _ e is. drop ! $
         rewrite ! 6 (λ (u : Val). ‵ (fat fullShare S′.mir l₄ 0 u)) (O.val-is r v is) refl $
         -- [the sheet's token; the record's cell; the open borrow; obs; auth; the station's; _4; …]
         assigns ! (of-opd ! (load ! (from ! (fld ! O.device-at (stop !))) (look-in ! 6 (O.device-in ! l₄ r)))) (from ! (hop ! (look ! 12 refl) (stop !))) (store ! 1 refl (typed 𝓤 H A W (r .device) (O.device-is r v is))) $

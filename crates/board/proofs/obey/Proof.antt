@@ -65,8 +65,7 @@ module _ {M : Type 1} (𝓤 : URA M) (H : Heap 𝓤) (A : Atoms 𝓤) (W : Given
         move ! (19 ∷ []) $ fsplit ! $ fsplit3 ! $ drop ! $ move ! (2 ∷ []) $ drop ! $ move ! (20 ∷ []) $ split ! $ move ! (2 ∷ 3 ∷ 0 ∷ []) $
         opens-record ! tt h (λ was.
         -- [the record's cell; the open borrow; obs; auth; true; _8; …; _1; …; room for _0; …]
-        calls-plain ! fm changes-state (known-of .0) (tt, tt, tt, (a, tt), (va ∷ [], tt)) tt (id⊢ 𝓤 _) (a-is, tt) (id⊢ 𝓤 _) (λ c. c ≡ changesState a) (λ c e. id⊢ 𝓤 _) (local ! 18 refl (no-more !)) 15 refl refl (λ vc c changes c-is.
-        first ! $ branches-on ! (look ! 15 refl) c-is changes
+        calls-plain ! fm changes-state (known-of .0) (tt, tt, tt, (a, tt), (va ∷ [], tt)) tt (id⊢ 𝓤 _) (a-is, tt) (id⊢ 𝓤 _) (λ c. c ≡ changesState a) (λ c e. id⊢ 𝓤 _) (local ! 18 refl (no-more !)) 15 refl refl (λ vc c changes c-is. first ! $ branches-on ! (look ! 15 refl) c-is changes
         (λ changed. copies ! 0 refl (state-in h ! was) (look ! 19 refl) (init ! 11 refl) $
         calls-plain ! fm state-after (known-of .1 .0) (tt, tt, tt, (h .state, (a, tt)), (mach-state (h .state) ∷ [], (va ∷ [], tt))) tt (id⊢ 𝓤 _) (state-is h was, (a-is, tt)) (id⊢ 𝓤 _) (λ s. s ≡ stateBy (h .state) a) (λ s e. id⊢ 𝓤 _)
         (local ! 12 refl (local ! 18 refl (no-more !))) 13 refl refl (λ vs s turned s-is.
@@ -74,8 +73,7 @@ module _ {M : Type 1} (𝓤 : URA M) (H : Heap 𝓤) (A : Atoms 𝓤) (W : Given
         assigns ! (of-opd ! (unit-lit !)) (from ! (stop !)) (init ! 21 refl (tt, tt)) $ closes-record ! tt (restate h s) (restated h was s s-is) $
         returns ! (look ! 20 refl) $ frees-all ! 4 (some _ ∷ some _ ∷ some _ ∷ some _ ∷ some _ ∷ some _ ∷ []) refl $
         keep ! (0 ∷ 1 ∷ 2 ∷ []) $ by ! (exits (restate h s) (same (sym (zero-kept sz a changed)) turned))))
-        (λ kept. calls-plain ! fm changes-zero (known-of .1 .1 .0) (tt, tt, tt, (a, tt), (va ∷ [], tt)) tt (id⊢ 𝓤 _) (a-is, tt) (id⊢ 𝓤 _) (λ d. d ≡ changesZero a) (λ d e. id⊢ 𝓤 _) (local ! 18 refl (no-more !)) 9 refl refl (λ vd d moves d-is.
-        branches-on ! (look ! 9 refl) d-is moves
+        (λ kept. calls-plain ! fm changes-zero (known-of .1 .1 .0) (tt, tt, tt, (a, tt), (va ∷ [], tt)) tt (id⊢ 𝓤 _) (a-is, tt) (id⊢ 𝓤 _) (λ d. d ≡ changesZero a) (λ d e. id⊢ 𝓤 _) (local ! 18 refl (no-more !)) 9 refl refl (λ vd d moves d-is. branches-on ! (look ! 9 refl) d-is moves
         (λ moved. copies ! 0 refl (sz-in h ! was) (look ! 19 refl) (init ! 5 refl) $
         calls-plain ! fm zero-after (known-of .1 .1 .1 .0) (tt, tt, tt, (sz, (a, tt)), (number sz ∷ [], (va ∷ [], tt))) tt (id⊢ 𝓤 _) (sz-is h was, (a-is, tt)) (id⊢ 𝓤 _) (λ z. z ≡ zeroBy sz a) (λ z e. id⊢ 𝓤 _) (local ! 6 refl (local ! 18 refl (no-more !))) 7 refl refl (λ vz z zeroed-is z-is.
         assigns-to ! t-3 Post (of-opd ! (load ! (from ! (stop !)) (look ! 7 refl))) (from ! (hop ! (look ! 19 refl) (fld ! setup-at (fld ! figures-at (fld ! system-at (fld ! sz-at (stop !))))))) (stores-sz ! 0 h refl was z z-is) $
