@@ -1,5 +1,5 @@
--- `board::converter_frame` meets its contract: a walk of its MIR, by hand. The record's borrow is opened and stays open over two calls: its station, state and SZ are read; then it is closed at the device as it was, and goes to `obey` for good (`gave-ref`). The frame goes to two calls at its own lifetime, the reply to one for good (`gave-slice`).
--- All that the proof knows of the three functions that are called is that they meet their contracts. Assumes nothing.
+-- `board::converter_frame` meets its contract: a walk of its MIR, by hand. The record's borrow is opened, and its station is read; a read is answered by its state and SZ. For any other frame the readings are tested: a frame that is obeyed takes the borrow, closed at the device as it was, to `obey` for good, and otherwise it is given up at this device (`gave-ref`). The frame goes to each call at its own lifetime, the reply to one of three for good (`gave-slice`).
+-- All that the proof knows of the seven functions that are called is that they meet their contracts. Assumes nothing.
 use denote.Struct.Laws as LL
 use Rattle.modbus.specs.Frame.{judged}
 use Rattle.modbus.specs.declared.frame.Frame.{Frame}
