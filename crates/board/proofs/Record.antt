@@ -134,8 +134,8 @@ module _ {M : Type 1} {𝓤 : URA M} {H : Heap 𝓤} {A : Atoms 𝓤} {K : Type 
   module _ (d : Device) where
     pub station-in : K → IsDevice d → Inside K W b o d (field 0 ∷ field 1 ∷ []) (tyInt w8) (vint w8 (d .setup .station))
     station-in t is = record {
-      offset = o + 0 + 336;
-      back = λ u. vstruct (vcons (vstruct (vcons (mach-figures (d .setup .figures)) (vcons u vnil))) (vcons (mach-state (d .state)) vnil));
+      offset = _;
+      back = _;
       finds = fld t setup-at (fld t station-at (stop t));
       part = within d (mach-is d) (sub-in t U′.mir setup-struct 1 (tyInt w8) 336 station-at (setup-part t _ _ _));
       typed = (tt, record { fits = station-fits d is });
@@ -143,8 +143,8 @@ module _ {M : Type 1} {𝓤 : URA M} {H : Heap 𝓤} {A : Atoms 𝓤} {K : Type 
 
     pub state-in : K → IsDevice d → Inside K W b o d (field 1 ∷ []) S′.mir (mach-state (d .state))
     state-in t is = record {
-      offset = o + 344;
-      back = λ u. vstruct (parts (mach-figures (d .setup .figures)) (d .setup .station) u);
+      offset = _;
+      back = _;
       finds = fld t state-at (stop t);
       part = within d (mach-is d) (state-part t _ _ _);
       typed = state-typed 𝓤 H A W (d .state) (state-is d is);
@@ -152,8 +152,8 @@ module _ {M : Type 1} {𝓤 : URA M} {H : Heap 𝓤} {A : Atoms 𝓤} {K : Type 
 
     pub readings-in : K → IsDevice d → Inside K W b o d (field 1 ∷ field 0 ∷ []) G′.mir (mach-readings (d .state .readings))
     readings-in t is = record {
-      offset = o + 344 + 0;
-      back = λ u. vstruct (parts (mach-figures (d .setup .figures)) (d .setup .station) (vstruct (setV (three (d .state)) 0 u)));
+      offset = _;
+      back = _;
       finds = fld t state-at (fld t readings-at (stop t));
       part = within d (mach-is d ∙ ap (λ (s : Val). vstruct (parts (mach-figures (d .setup .figures)) (d .setup .station) s)) (three-are (d .state))) (sub-in t S′.mir state-struct 0 G′.mir 0 readings-at (state-part t _ _ _));
       typed = LL.lawful G.the-type G′.the-laws 𝓤 H A W .typed (d .state .readings) _ (readings-is d is) .0;
@@ -161,8 +161,8 @@ module _ {M : Type 1} {𝓤 : URA M} {H : Heap 𝓤} {A : Atoms 𝓤} {K : Type 
 
     pub sz-in : K → IsDevice d → Inside K W b o d (field 0 ∷ field 0 ∷ field 3 ∷ field 4 ∷ []) (tyInt w64) (number (d .setup .figures .system .sz))
     sz-in t is = record {
-      offset = o + 0 + 0 + 280 + 32;
-      back = λ u. vstruct (parts (zeroed (d .setup .figures) u) (d .setup .station) (mach-state (d .state)));
+      offset = _;
+      back = _;
       finds = fld t setup-at (fld t figures-at (fld t system-at (fld t sz-at (stop t))));
       part = within d (rezero-is d (d .setup .figures .system .sz)) (sub-in t Y′.mir system-struct 4 (tyInt w64) 32 sz-at (figure-part t 3 Y′.mir 280 system-at _ _ _));
       typed = sint-lawful 𝓤 H A W w64 .typed (d .setup .figures .system .sz) _ (sz-is d is) .0;
@@ -170,8 +170,8 @@ module _ {M : Type 1} {𝓤 : URA M} {H : Heap 𝓤} {A : Atoms 𝓤} {K : Type 
 
     figure-in : K → (k : ℕ) (τ : Ty) (e : ℕ) → fieldOf F′.mir k ≡ some (τ, e) → Holds (hasTy τ (getV (five (d .setup .figures)) k)) × WT (getV (five (d .setup .figures)) k) → Inside K W b o d (field 0 ∷ field 0 ∷ field k ∷ []) τ (getV (five (d .setup .figures)) k)
     figure-in t k τ e at typed = record {
-      offset = o + 0 + 0 + e;
-      back = λ u. vstruct (parts (vstruct (setV (five (d .setup .figures)) k u)) (d .setup .station) (mach-state (d .state)));
+      offset = _;
+      back = _;
       finds = fld t setup-at (fld t figures-at (fld t at (stop t)));
       part = within d (mach-five d) (figure-part t k τ e at _ _ _);
       typed = typed;
