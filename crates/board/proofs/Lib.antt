@@ -7,4 +7,5 @@ mod Callees
 mod Branch
 mod Lent
 mod Locals
+mod Entered
 mod Walk

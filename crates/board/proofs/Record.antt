@@ -48,7 +48,7 @@ use Rattle.converter.specs.declared.Device.{Device}
 use Rattle.converter.proofs.Device as D
 use Rattle.converter.proofs.Device.Laws as D′
 use Rattle.board.proofs.Field.{IsStruct, sub-in}
-use Rattle.board.proofs.Kept.{mach, mach-figures, mach-cell, mach-temperature, mach-linearity, mach-system, mach-filter, mach-state, mach-readings, IsDevice, parts, five, three, three-are, mach-is, mach-five, number, zeroed, rezero, rezero-is, restate, tells, state-tells, state-typed, state-is, five-is, readings-is, sz-is, station-fits}
+use Rattle.board.proofs.Kept.{mach, mach-figures, mach-cell, mach-temperature, mach-linearity, mach-system, mach-filter, mach-state, mach-readings, IsDevice, parts, five, three-are, mach-is, mach-five, number, zeroed, rezero, rezero-is, restate, tells, state-tells, state-typed, state-is, five-is, readings-is, sz-is, station-fits}
 
 -- the record's cell, and what opens it
 abbrev pub held : ℕ → ℕ → Device → Fml

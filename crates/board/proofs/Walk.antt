@@ -13,16 +13,15 @@ pub use base.Logic.{SProp, ent, id⊢, emp, via, fst∗, sep}
 pub use base.Fml.{GName, Lft, Share, ftrue, fat, flft, fobs, fbor, fres, fshr-bor}
 pub use prog.Memory.{Memory}
 pub use prog.Routine.{Routine}
-pub use prog.Wp.{Heap, Calls, Loops, WpFn, Tables}
+pub use prog.Wp.{Heap, Calls, Loops, WpFn}
 pub use ghost.Atoms.{Atoms}
 pub use contract.Monad.{Fun, factI}
-pub use contract.Running.{givenOf, tables}
-unfoldable pub use contract.Running.{tablesOf}
+pub use contract.Running.{givenOf}
 pub use types.Kit.{Given, Item, group, ‵, _⊛_, ⋆, _$_, _∵_, !, qed, by, move, keep, drop, use1, split, join, rewrite, fsplit, fsplit3, fjoin, fjoin3, feqL, feqI, suffices, frame, done}
 pub use types.Run.{unit-lit, look, init, stop, hop, fld, from, load, addr, of-opd, and-then, no-more, assigns, first, returns, enter, alloc1, alloc0, params1, pass1, pass0, store, lit, returns-within, look-raw}
 pub use types.Part.{agg, whole, sub, look-in}
 pub use types.SemTy.{Body}
-pub use sound.WpLaws.{FmC, fmOf, WpFn-mono}
+pub use sound.WpLaws.{FmC}
 pub use denote.RattleType.{owns}
 pub use denote.Laws.{Is, shows}
 pub use denote.Memory.{mem, partAt}
@@ -36,8 +35,6 @@ pub use denote.Steps.{only, owned, nothing, looks, shuts, peeks}
 pub use denote.Struct.Steps.{spelt}
 pub use denote.Triple.Bound.{Bound}
 pub use denote.Triple.Entry.{onEntry}
-pub use denote.Triple.Spec.{Meets, tripleOf}
-pub use denote.Triple.Table.{entered}
-pub use denote.Triple.Walked.{gave-ref, goes-gave-ref, says, needs, Stays, stay-ref, stay-dropped, gave-slice, walkOf, AllGo, goes-ref, goes-dropped, goes-gave-slice, Walks, ends-at, walked, walk-meets, stay-none, goes-none, stay-none-ref, goes-none-ref}
+pub use denote.Triple.Walked.{gave-ref, goes-gave-ref, says, needs, Stays, stay-ref, stay-dropped, gave-slice, walkOf, AllGo, goes-ref, goes-dropped, goes-gave-slice, Walks, ends-at, walked, stay-none, goes-none, stay-none-ref, goes-none-ref}
 pub use denote.Exit.{yes}
 pub use lib.Dec.{T, lit<}

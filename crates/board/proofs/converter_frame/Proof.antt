@@ -18,11 +18,12 @@ use Rattle.converter.proofs.Entries.{unobeyed, read-unobeyed, serves}
 use Rattle.converter.proofs.Device as D
 use Rattle.converter.proofs.bus.Answered as B
 use Rattle.converter.proofs.bus.Answered.Laws as B′
-use Rattle.board.proofs.Walk.{none, some, _≡_, refl, sym, ℕ, [], _∷_, List, length, URA, named, Val, vptr, SProp, ent, id⊢, GName, Lft, Share, ftrue, flft, fres, Memory, Routine, Heap, Calls, Loops, WpFn, Tables, Atoms, Fun, givenOf, tables, tablesOf, Given, Item, group, ‵, _⊛_, ⋆, _$_, _∵_, !, qed, by, move, keep, drop, use1, split, join, fsplit, fsplit3, fjoin, feqL, suffices, frame, done, look, init, stop, hop, fld, from, load, addr, of-opd, and-then, no-more, assigns, first, returns, returns-within, enter, alloc1, alloc0, params1, pass1, pass0, agg, whole, sub, look-in, FmC, fmOf, WpFn-mono, owns, Is, mem, u8, RefT, MutRef, ptr-vals, mut-tells, slice-vals, MutSlice, ShrSlice, Room, finally, mut-slice-tells, shr-slice-tells, shr-slice-copy, plain, shrSliceOf, owned, nothing, onEntry, Meets, tripleOf, entered, gave-ref, goes-gave-ref, says, needs, Stays, stay-dropped, gave-slice, walkOf, AllGo, goes-dropped, goes-gave-slice, Walks, ends-at, walked, walk-meets, yes}
-use Rattle.board.proofs.Call.{Callee, AllKnown, all-known, calls-out, calls-plain, local}
+use Rattle.board.proofs.Walk.{none, some, _≡_, refl, sym, ℕ, [], _∷_, List, length, URA, named, Val, vptr, SProp, ent, id⊢, GName, Lft, Share, ftrue, flft, fres, Memory, Routine, Heap, Calls, Loops, WpFn, Atoms, Fun, givenOf, Given, Item, group, ‵, _⊛_, ⋆, _$_, _∵_, !, qed, by, move, keep, drop, use1, split, join, fsplit, fsplit3, fjoin, feqL, suffices, frame, done, look, init, stop, hop, fld, from, load, addr, of-opd, and-then, no-more, assigns, first, returns, returns-within, enter, alloc1, alloc0, params1, pass1, pass0, agg, whole, sub, look-in, FmC, owns, Is, mem, u8, RefT, MutRef, ptr-vals, mut-tells, slice-vals, MutSlice, ShrSlice, Room, finally, mut-slice-tells, shr-slice-tells, shr-slice-copy, plain, shrSliceOf, owned, nothing, onEntry, gave-ref, goes-gave-ref, says, needs, Stays, stay-dropped, gave-slice, walkOf, AllGo, goes-dropped, goes-gave-slice, Walks, ends-at, walked, yes}
+use Rattle.board.proofs.Call.{Callee, AllKnown, calls-out, calls-plain, local}
 use Rattle.board.proofs.Callees.{is-read, is-obeyed}
 use Rattle.board.proofs.Lent.{slice, bytes, judge, to-judge, judge-asks, answer, to-answer, answer-asks, acknowledge, to-acknowledge, acknowledge-asks, refuse, to-refuse, refuse-asks, obey, to-obey, obey-asks}
 use Rattle.board.proofs.Branch.{branches-on, skips-to}
+use Rattle.board.proofs.Entered.{walk-entered}
 use Rattle.board.proofs.Locals.{frees-all}
 use Rattle.board.proofs.Kept.{mach-readings, readings-is, station-fits}
 use Rattle.board.proofs.Record.{opens-record, closes-record, gives-record, station-in, sz-in, state-in, readings-in, copies}
@@ -136,14 +137,9 @@ module _ {M : Type 1} (𝓤 : URA M) (H : Heap 𝓤) (A : Atoms 𝓤) (W : Given
   goes : AllGo 𝓤 H A W 3 (f.signature .params) (f.ended .kept) stayed
   goes = (goes-gave-ref 𝓤 H A W 3 0 tt (plain (λ _. D.the-row)), (goes-dropped 𝓤 H A W 3 (shrSliceOf (1 ∷ []) tt (plain (λ _. u8))) yes (λ κs x f. refl), (goes-gave-slice 𝓤 H A W 3 2 tt (plain (λ _. u8)), tt)))
 
-  meets : (𝓣 : Tables 𝓤 H) → AllKnown 𝓤 H A mem run (𝓣 .C) callees → Meets 𝓤 H A f.signature (WpFn 𝓤 H (𝓣 .C) (𝓣 .Λ) code.function) (f.spec 𝓤 H A mem run)
-  meets 𝓣 known-of = walk-meets 𝓤 H A f.ended stayed W goes (f.clauses 𝓤 H A mem run) (WpFn 𝓤 H (𝓣 .C) (𝓣 .Λ) code.function) (WpFn-mono 𝓤 H (W .laws) 𝓣 code.function) (walks (𝓣 .C) (𝓣 .Λ) (fmOf 𝓤 H (W .laws) 𝓣) known-of)
-
 pub converter-frame-spec : {M : Type 1} → stated.statement M
-unfolding code.routine tablesOf
+unfolding code.routine
 converter-frame-spec 𝓤 H 𝓜 𝓖 𝓡 =
-    entered 𝓤 H (tripleOf 𝓤 H (𝓖 .A) f.signature (f.spec 𝓤 H (𝓖 .A) (𝓜 .mem) (𝓡 .run)))
-    (tables 𝓤 H 𝓜 𝓡 code.env .C) (tables 𝓤 H 𝓜 𝓡 code.env .Λ) #board·converter-frame code.function (code.unfolded 𝓤 H 𝓜 𝓡)
-    (meets 𝓤 H (𝓖 .A) (givenOf 𝓤 H 𝓜 𝓖) (𝓜 .mem) (𝓡 .run) (tablesOf 𝓤 H 𝓜 (tables 𝓤 H 𝓜 𝓡 code.env))
-    (all-known 𝓤 H 𝓜 𝓖 𝓡 code.env callees
-    (code.calls-modbus·frame·judge, (code.calls-state·is-read, (code.calls-converter·answer, (code.calls-state·is-obeyed, (code.calls-board·obey, (code.calls-converter·acknowledge, (code.calls-converter·refuse, tt)))))))))
+    let W = givenOf 𝓤 H 𝓜 𝓖 in
+    walk-entered 𝓤 H 𝓜 𝓖 𝓡 code.env #board·converter-frame code.function (code.unfolded 𝓤 H 𝓜 𝓡) callees (code.calls-modbus·frame·judge, (code.calls-state·is-read, (code.calls-converter·answer, (code.calls-state·is-obeyed, (code.calls-board·obey, (code.calls-converter·acknowledge, (code.calls-converter·refuse, tt)))))))
+    f.ended (f.clauses 𝓤 H (𝓖 .A) (𝓜 .mem) (𝓡 .run)) stayed (goes 𝓤 H (𝓖 .A) W (𝓜 .mem) (𝓡 .run)) (walks 𝓤 H (𝓖 .A) W (𝓜 .mem) (𝓡 .run))

@@ -5,8 +5,9 @@ use Rattle.converter.specs.declared.Device.{Device}
 use Rattle.converter.specs.declared.Outcome.{Outcome}
 use Rattle.converter.proofs.Device as D
 use Rattle.converter.proofs.Outcome.Laws as S′
-use Rattle.board.proofs.Walk.{some, refl, ℕ, _<_, _^_, [], _∷_, List, length, URA, fullShare, named, w8, Val, vint, vptr, SProp, ent, emp, via, fst∗, id⊢, GName, Lft, Share, ftrue, fat, flft, fobs, fbor, Memory, Routine, Heap, Calls, Loops, WpFn, Tables, Atoms, Fun, givenOf, tables, tablesOf, Given, Item, ‵, ⋆, _⊛_, _$_, _∵_, !, qed, by, move, keep, drop, split, join, rewrite, fsplit, fsplit3, fjoin, fjoin3, feqI, suffices, frame, done, look, store, init, stop, hop, fld, from, load, of-opd, no-more, assigns, returns, enter, alloc1, alloc0, params1, pass1, pass0, look-in, Body, FmC, fmOf, WpFn-mono, owns, Is, mem, uint-vals, uint-tells, uint-makes, u8, RefT, MutRef, ptr-vals, mut-tells, sliceVal, slice-vals, ShrSlice, Room, shr-slice-tells, plain, shrSliceOf, owned, nothing, onEntry, Meets, tripleOf, entered, says, Stays, stay-ref, stay-none, stay-dropped, walkOf, AllGo, goes-none, goes-ref, goes-dropped, Walks, ends-at, walked, walk-meets, yes}
-use Rattle.board.proofs.Call.{Callee, triple, AllKnown, all-known, calls-out, local}
+use Rattle.board.proofs.Walk.{some, refl, ℕ, _<_, _^_, [], _∷_, List, length, URA, fullShare, named, w8, Val, vint, vptr, SProp, ent, emp, via, fst∗, id⊢, GName, Lft, Share, ftrue, fat, flft, fobs, fbor, Memory, Routine, Heap, Calls, Loops, WpFn, Atoms, Fun, givenOf, Given, Item, ‵, ⋆, _⊛_, _$_, _∵_, !, qed, by, move, keep, drop, split, join, rewrite, fsplit, fsplit3, fjoin, fjoin3, feqI, suffices, frame, done, look, store, init, stop, hop, fld, from, load, of-opd, no-more, assigns, returns, enter, alloc1, alloc0, params1, pass1, pass0, look-in, Body, FmC, owns, Is, mem, uint-vals, uint-tells, uint-makes, u8, RefT, MutRef, ptr-vals, mut-tells, sliceVal, slice-vals, ShrSlice, Room, shr-slice-tells, plain, shrSliceOf, owned, nothing, onEntry, says, Stays, stay-ref, stay-none, stay-dropped, walkOf, AllGo, goes-none, goes-ref, goes-dropped, Walks, ends-at, walked, yes}
+use Rattle.board.proofs.Call.{Callee, triple, AllKnown, calls-out, local}
+use Rattle.board.proofs.Entered.{walk-entered}
 use Rattle.board.proofs.Locals.{frees-all}
 use Rattle.board.proofs.Kept.{typed}
 use Rattle.board.proofs.Record.{opens-record, closes-record}
@@ -93,14 +94,9 @@ module _ {M : Type 1} (𝓤 : URA M) (H : Heap 𝓤) (A : Atoms 𝓤) (W : Given
   goes : AllGo 𝓤 H A W 2 (f.signature .params) (f.ended .kept) stayed
   goes = (goes-ref 𝓤 H A W 2 0 tt (plain (λ _. D.the-row)), (goes-dropped 𝓤 H A W 2 (shrSliceOf (1 ∷ []) tt (plain (λ _. u8))) yes (λ κs x f. refl), (goes-none 𝓤 H A W 2 (λ _. u8) yes (λ κs x f. refl), tt)))
 
-meets : {M : Type 1} (𝓤 : URA M) (H : Heap 𝓤) (A : Atoms 𝓤) → Given 𝓤 H A → (mem : Memory → SProp 𝓤) (run : Routine → Fun 𝓤) (𝓣 : Tables 𝓤 H) → AllKnown 𝓤 H A mem run (𝓣 .C) (make ∷ [])
-    → Meets 𝓤 H A f.signature (WpFn 𝓤 H (𝓣 .C) (𝓣 .Λ) code.function) (f.spec 𝓤 H A mem run)
-meets 𝓤 H A W mem run 𝓣 known = walk-meets 𝓤 H A f.ended stayed W (goes 𝓤 H A W mem run) (f.clauses 𝓤 H A mem run) (WpFn 𝓤 H (𝓣 .C) (𝓣 .Λ) code.function) (WpFn-mono 𝓤 H (W .laws) 𝓣 code.function) (walks 𝓤 H A W mem run (𝓣 .C) (𝓣 .Λ) (fmOf 𝓤 H (W .laws) 𝓣) known)
-
 pub converter-make-spec : {M : Type 1} → stated.statement M
-unfolding code.routine tablesOf
+unfolding code.routine
 converter-make-spec 𝓤 H 𝓜 𝓖 𝓡 =
-    entered 𝓤 H (tripleOf 𝓤 H (𝓖 .A) f.signature (f.spec 𝓤 H (𝓖 .A) (𝓜 .mem) (𝓡 .run)))
-    (tables 𝓤 H 𝓜 𝓡 code.env .C) (tables 𝓤 H 𝓜 𝓡 code.env .Λ) #board·converter-make code.function (code.unfolded 𝓤 H 𝓜 𝓡)
-    (meets 𝓤 H (𝓖 .A) (givenOf 𝓤 H 𝓜 𝓖) (𝓜 .mem) (𝓡 .run) (tablesOf 𝓤 H 𝓜 (tables 𝓤 H 𝓜 𝓡 code.env))
-    (all-known 𝓤 H 𝓜 𝓖 𝓡 code.env (make ∷ []) (code.calls-converter·Device·make, tt)))
+    let W = givenOf 𝓤 H 𝓜 𝓖 in
+    walk-entered 𝓤 H 𝓜 𝓖 𝓡 code.env #board·converter-make code.function (code.unfolded 𝓤 H 𝓜 𝓡) (make ∷ []) (code.calls-converter·Device·make, tt)
+    f.ended (f.clauses 𝓤 H (𝓖 .A) (𝓜 .mem) (𝓡 .run)) stayed (goes 𝓤 H (𝓖 .A) W (𝓜 .mem) (𝓡 .run)) (walks 𝓤 H (𝓖 .A) W (𝓜 .mem) (𝓡 .run))

@@ -9,9 +9,10 @@ use Rattle.converter.specs.Reached.{Reached}
 use Rattle.converter.specs.declared.Device.{Device}
 use Rattle.converter.proofs.Device as D
 use Rattle.converter.proofs.Device.Laws as D′
-use Rattle.board.proofs.Walk.{some, _≡_, refl, ℕ, [], _∷_, List, URA, named, Val, vptr, emp, SProp, ent, sep, id⊢, GName, Lft, Share, ftrue, flft, fres, fshr-bor, Memory, Routine, Heap, Calls, Loops, WpFn, Tables, Atoms, Fun, factI, givenOf, tables, tablesOf, Given, ‵, _⊛_, _$_, _∵_, !, qed, by, move, keep, drop, split, join, fsplit, fsplit3, fjoin, fjoin3, feqI, suffices, frame, done, look, look-raw, init, stop, hop, from, load, of-opd, no-more, assigns, returns, enter, alloc1, alloc0, params1, pass1, pass0, FmC, fmOf, WpFn-mono, owns, Is, shows, partAt, RefT, ShrRef, ptr-vals, shr-tells, plain, looks, shuts, owned, peeks, nothing, spelt, onEntry, Meets, tripleOf, entered, says, needs, Stays, stay-none-ref, walkOf, AllGo, goes-none-ref, Walks, ends-at, walked, walk-meets, yes}
-use Rattle.board.proofs.Call.{AllKnown, all-known, calls-plain, local}
+use Rattle.board.proofs.Walk.{some, _≡_, refl, ℕ, [], _∷_, List, URA, named, Val, vptr, emp, SProp, ent, sep, id⊢, GName, Lft, Share, ftrue, flft, fres, fshr-bor, Memory, Routine, Heap, Calls, Loops, WpFn, Atoms, Fun, factI, givenOf, Given, ‵, _⊛_, _$_, _∵_, !, qed, by, move, keep, drop, split, join, fsplit, fsplit3, fjoin, fjoin3, feqI, suffices, frame, done, look, look-raw, init, stop, hop, from, load, of-opd, no-more, assigns, returns, enter, alloc1, alloc0, params1, pass1, pass0, FmC, owns, Is, shows, partAt, RefT, ShrRef, ptr-vals, shr-tells, plain, looks, shuts, owned, peeks, nothing, spelt, onEntry, says, needs, Stays, stay-none-ref, walkOf, AllGo, goes-none-ref, Walks, ends-at, walked, yes}
+use Rattle.board.proofs.Call.{AllKnown, calls-plain, local}
 use Rattle.board.proofs.Callees.{report}
+use Rattle.board.proofs.Entered.{walk-entered}
 use Rattle.board.proofs.Locals.{frees-all}
 use Rattle.board.proofs.Kept.{mach, tells, typed}
 use Rattle.board.proofs.converter_report.Key.{name as #board·converter-report}
@@ -67,14 +68,9 @@ module _ {M : Type 1} (𝓤 : URA M) (H : Heap 𝓤) (A : Atoms 𝓤) (W : Given
   goes : AllGo 𝓤 H A W 1 (f.signature .params) (f.ended .kept) stayed
   goes = (goes-none-ref 𝓤 H A W 1 (0 ∷ []) tt (plain (λ _. D.the-row)) yes, tt)
 
-meets : {M : Type 1} (𝓤 : URA M) (H : Heap 𝓤) (A : Atoms 𝓤) → Given 𝓤 H A → (mem : Memory → SProp 𝓤) (run : Routine → Fun 𝓤) (𝓣 : Tables 𝓤 H) → AllKnown 𝓤 H A mem run (𝓣 .C) (report .callee ∷ [])
-    → Meets 𝓤 H A f.signature (WpFn 𝓤 H (𝓣 .C) (𝓣 .Λ) code.function) (f.spec 𝓤 H A mem run)
-meets 𝓤 H A W mem run 𝓣 known = walk-meets 𝓤 H A f.ended stayed W (goes 𝓤 H A W mem run) (f.clauses 𝓤 H A mem run) (WpFn 𝓤 H (𝓣 .C) (𝓣 .Λ) code.function) (WpFn-mono 𝓤 H (W .laws) 𝓣 code.function) (walks 𝓤 H A W mem run (𝓣 .C) (𝓣 .Λ) (fmOf 𝓤 H (W .laws) 𝓣) known)
-
 pub converter-report-spec : {M : Type 1} → stated.statement M
-unfolding code.routine tablesOf
+unfolding code.routine
 converter-report-spec 𝓤 H 𝓜 𝓖 𝓡 =
-    entered 𝓤 H (tripleOf 𝓤 H (𝓖 .A) f.signature (f.spec 𝓤 H (𝓖 .A) (𝓜 .mem) (𝓡 .run)))
-    (tables 𝓤 H 𝓜 𝓡 code.env .C) (tables 𝓤 H 𝓜 𝓡 code.env .Λ) #board·converter-report code.function (code.unfolded 𝓤 H 𝓜 𝓡)
-    (meets 𝓤 H (𝓖 .A) (givenOf 𝓤 H 𝓜 𝓖) (𝓜 .mem) (𝓡 .run) (tablesOf 𝓤 H 𝓜 (tables 𝓤 H 𝓜 𝓡 code.env))
-    (all-known 𝓤 H 𝓜 𝓖 𝓡 code.env (report .callee ∷ []) (code.calls-converter·Device·report, tt)))
+    let W = givenOf 𝓤 H 𝓜 𝓖 in
+    walk-entered 𝓤 H 𝓜 𝓖 𝓡 code.env #board·converter-report code.function (code.unfolded 𝓤 H 𝓜 𝓡) (report .callee ∷ []) (code.calls-converter·Device·report, tt)
+    f.ended (f.clauses 𝓤 H (𝓖 .A) (𝓜 .mem) (𝓡 .run)) stayed (goes 𝓤 H (𝓖 .A) W (𝓜 .mem) (𝓡 .run)) (walks 𝓤 H (𝓖 .A) W (𝓜 .mem) (𝓡 .run))
