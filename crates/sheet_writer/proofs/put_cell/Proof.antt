@@ -13,12 +13,6 @@ use borrow.Author.Needs.{needs}
 use Rattle.sheet_writer.proofs.put_cell.Statement.{statement}
 use Rattle.sheet_writer.proofs.put_cell.Tie as tie
 
-slice-write-out : tie.Need-slice-write-out
-slice-write-out c = search needs
-
-add-put-four : tie.Need-add-put-four
-add-put-four c = search needs
-
 put-four-requires : tie.Need-put-four-requires
 put-four-requires c κs = simp length-set (omega arith)
 
@@ -37,4 +31,4 @@ returns c =
 
 pub put-cell-spec : {M : Type 1} → statement M
 put-cell-spec =
-    tie.close (tie.spec slice-write-out add-put-four put-four-requires same-length returns)
+    tie.close (tie.spec (λ c. search needs) (λ c. search needs) put-four-requires same-length returns)

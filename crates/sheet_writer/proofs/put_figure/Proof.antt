@@ -16,28 +16,10 @@ Inv-loop out₀ at v word₀ i₀ out word i = (sets out (at + i) (wordBytes (8 
 abbrev μ-loop : tie.MeasureT-loop
 μ-loop out₀ at v word₀ i₀ out word i = 8 - i
 
-unsigned-requires : tie.Need-unsigned-requires Inv-loop μ-loop
-unsigned-requires c κs = tt
-
 loop-holds : tie.Need-loop-holds Inv-loop μ-loop
 loop-holds c =
     let e : c .before .before .args .at + 0 ≡ c .before .before .args .at = omega arith in
     (rw e, refl, omega arith)
-
-cast-out : tie.Need-cast-out Inv-loop μ-loop
-cast-out c = omega arith
-
-add-out : tie.Need-add-out Inv-loop μ-loop
-add-out c = omega arith
-
-slice-write-out : tie.Need-slice-write-out Inv-loop μ-loop
-slice-write-out c = omega arith
-
-add-i : tie.Need-add-i Inv-loop μ-loop
-add-i c = omega arith
-
-loop-less : tie.Need-loop-less Inv-loop μ-loop
-loop-less c = omega arith
 
 loop-again : tie.Need-loop-again Inv-loop μ-loop
 loop-again c =
@@ -46,9 +28,6 @@ loop-again c =
     let e : at + (l .i + 1) ≡ suc (at + l .i) = omega arith in
     let d : 8 - l .i ≡ suc (8 - (l .i + 1)) = omega arith in
     (rw e (rw d at (l .inv .0)), simp length-set (l .inv .1), omega arith)
-
-same-length : tie.Need-same-length Inv-loop μ-loop
-same-length c = search needs
 
 returns : tie.Need-returns Inv-loop μ-loop
 unfolding figureBytes
@@ -64,13 +43,13 @@ put-figure-spec =
     (tie.spec
     Inv-loop
     μ-loop
-    unsigned-requires
+    (λ c κs. tt)
     loop-holds
-    cast-out
-    add-out
-    slice-write-out
-    add-i
-    loop-less
+    (λ c. omega arith)
+    (λ c. omega arith)
+    (λ c. omega arith)
+    (λ c. omega arith)
+    (λ c. omega arith)
     loop-again
-    same-length
+    (λ c. search needs)
     returns)

@@ -13,17 +13,8 @@ use borrow.Author.Needs.{needs}
 use Rattle.sheet_writer.proofs.put_filter.Statement.{statement}
 use Rattle.sheet_writer.proofs.put_filter.Tie as tie
 
-slice-write-out : tie.Need-slice-write-out
-slice-write-out c = search needs
-
-add-put-figure : tie.Need-add-put-figure
-add-put-figure c = search needs
-
 put-figure-requires : tie.Need-put-figure-requires
 put-figure-requires c κs = simp length-set (omega arith)
-
-add-put-figure-2 : tie.Need-add-put-figure-2
-add-put-figure-2 c = search needs
 
 put-figure-requires-2 : tie.Need-put-figure-requires-2
 put-figure-requires-2 c κs = omega (arith, simp length-set at (c .before .before .before .before .put-figure .kept .0))
@@ -46,10 +37,10 @@ pub put-filter-spec : {M : Type 1} → statement M
 put-filter-spec =
     tie.close
     (tie.spec
-    slice-write-out
-    add-put-figure
+    (λ c. search needs)
+    (λ c. search needs)
     put-figure-requires
-    add-put-figure-2
+    (λ c. search needs)
     put-figure-requires-2
     same-length
     returns)

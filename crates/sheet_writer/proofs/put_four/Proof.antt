@@ -8,30 +8,6 @@ use borrow.Author.Needs.{needs}
 use Rattle.sheet_writer.proofs.put_four.Statement.{statement}
 use Rattle.sheet_writer.proofs.put_four.Tie as tie
 
-put-figure-requires : tie.Need-put-figure-requires
-put-figure-requires c κs = search needs
-
-add-put-figure : tie.Need-add-put-figure
-add-put-figure c = search needs
-
-put-figure-requires-2 : tie.Need-put-figure-requires-2
-put-figure-requires-2 c κs = search needs
-
-add-put-figure-2 : tie.Need-add-put-figure-2
-add-put-figure-2 c = search needs
-
-put-figure-requires-3 : tie.Need-put-figure-requires-3
-put-figure-requires-3 c κs = search needs
-
-add-put-figure-3 : tie.Need-add-put-figure-3
-add-put-figure-3 c = search needs
-
-put-figure-requires-4 : tie.Need-put-figure-requires-4
-put-figure-requires-4 c κs = search needs
-
-same-length : tie.Need-same-length
-same-length c = search needs
-
 returns : tie.Need-returns
 returns c =
     let s = c .before .before .before .before .before .before .before .before .before .before .before .before .before .before .before .before .before in
@@ -45,12 +21,12 @@ pub put-four-spec : {M : Type 1} → statement M
 put-four-spec =
     tie.close
     (tie.spec
-    put-figure-requires
-    add-put-figure
-    put-figure-requires-2
-    add-put-figure-2
-    put-figure-requires-3
-    add-put-figure-3
-    put-figure-requires-4
-    same-length
+    (λ c κs. search needs)
+    (λ c. search needs)
+    (λ c κs. search needs)
+    (λ c. search needs)
+    (λ c κs. search needs)
+    (λ c. search needs)
+    (λ c κs. search needs)
+    (λ c. search needs)
     returns)

@@ -9,18 +9,6 @@ use borrow.Author.Needs.{needs}
 use Rattle.sheet_writer.proofs.put_linearity.Statement.{statement}
 use Rattle.sheet_writer.proofs.put_linearity.Tie as tie
 
-slice-write-out : tie.Need-slice-write-out
-slice-write-out c = search needs
-
-add-put-linearity-points : tie.Need-add-put-linearity-points
-add-put-linearity-points c = search needs
-
-cast-put-linearity-points : tie.Need-cast-put-linearity-points
-cast-put-linearity-points c = search needs
-
-put-linearity-points-requires : tie.Need-put-linearity-points-requires
-put-linearity-points-requires c κs = search needs
-
 same-length : tie.Need-same-length
 same-length c = c .before .before .put-linearity-points .kept .0 ∙ simp length-set
 
@@ -34,9 +22,9 @@ pub put-linearity-spec : {M : Type 1} → statement M
 put-linearity-spec =
     tie.close
     (tie.spec
-    slice-write-out
-    add-put-linearity-points
-    cast-put-linearity-points
-    put-linearity-points-requires
+    (λ c. search needs)
+    (λ c. search needs)
+    (λ c. search needs)
+    (λ c κs. search needs)
     same-length
     returns)

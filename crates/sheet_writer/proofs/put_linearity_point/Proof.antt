@@ -10,18 +10,6 @@ use borrow.Author.Needs.{needs}
 use Rattle.sheet_writer.proofs.put_linearity_point.Statement.{statement}
 use Rattle.sheet_writer.proofs.put_linearity_point.Tie as tie
 
-put-figure-requires : tie.Need-put-figure-requires
-put-figure-requires c κs = search needs
-
-add-put-figure : tie.Need-add-put-figure
-add-put-figure c = search needs
-
-put-figure-requires-2 : tie.Need-put-figure-requires-2
-put-figure-requires-2 c κs = search needs
-
-same-length : tie.Need-same-length
-same-length c = search needs
-
 returns : tie.Need-returns
 unfolding linearityPointBytes
 returns c =
@@ -33,4 +21,4 @@ returns c =
 pub put-linearity-point-spec : {M : Type 1} → statement M
 put-linearity-point-spec =
     tie.close
-    (tie.spec put-figure-requires add-put-figure put-figure-requires-2 same-length returns)
+    (tie.spec (λ c κs. search needs) (λ c. search needs) (λ c κs. search needs) (λ c. search needs) returns)

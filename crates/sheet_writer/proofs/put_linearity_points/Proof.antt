@@ -19,27 +19,9 @@ abbrev μ-loop : tie.MeasureT-loop
 loop-holds : tie.Need-loop-holds Inv-loop μ-loop
 loop-holds c = (nothing _ (omega arith) (omega arith), omega arith)
 
-mul-point : tie.Need-mul-point Inv-loop μ-loop
-mul-point c = omega arith
-
-array-copy-out-point : tie.Need-array-copy-out-point Inv-loop μ-loop
-array-copy-out-point c = omega arith
-
-mul-put-linearity-point : tie.Need-mul-put-linearity-point Inv-loop μ-loop
-mul-put-linearity-point c = omega arith
-
-add-put-linearity-point : tie.Need-add-put-linearity-point Inv-loop μ-loop
-add-put-linearity-point c = omega arith
-
 put-linearity-point-requires : tie.Need-put-linearity-point-requires Inv-loop μ-loop
 put-linearity-point-requires c κs =
     omega (arith, size (c .before .before .before .loop .inv .0))
-
-add-i : tie.Need-add-i Inv-loop μ-loop
-add-i c = omega arith
-
-loop-less : tie.Need-loop-less Inv-loop μ-loop
-loop-less c = omega arith
 
 loop-again : tie.Need-loop-again Inv-loop μ-loop
 loop-again c =
@@ -63,13 +45,13 @@ put-linearity-points-spec =
     Inv-loop
     μ-loop
     loop-holds
-    mul-point
-    array-copy-out-point
-    mul-put-linearity-point
-    add-put-linearity-point
+    (λ c. omega arith)
+    (λ c. omega arith)
+    (λ c. omega arith)
+    (λ c. omega arith)
     put-linearity-point-requires
-    add-i
-    loop-less
+    (λ c. omega arith)
+    (λ c. omega arith)
     loop-again
     same-length
     returns)

@@ -13,17 +13,8 @@ use borrow.Author.Needs.{needs}
 use Rattle.sheet_writer.proofs.put_system.Statement.{statement}
 use Rattle.sheet_writer.proofs.put_system.Tie as tie
 
-slice-write-out : tie.Need-slice-write-out
-slice-write-out c = search needs
-
-add-put-four : tie.Need-add-put-four
-add-put-four c = search needs
-
 put-four-requires : tie.Need-put-four-requires
 put-four-requires c κs = simp length-set (omega arith)
-
-add-put-figure : tie.Need-add-put-figure
-add-put-figure c = search needs
 
 put-figure-requires : tie.Need-put-figure-requires
 put-figure-requires c κs = omega (arith, simp length-set at (c .before .before .before .before .put-four .kept .0))
@@ -49,10 +40,10 @@ pub put-system-spec : {M : Type 1} → statement M
 put-system-spec =
     tie.close
     (tie.spec
-    slice-write-out
-    add-put-four
+    (λ c. search needs)
+    (λ c. search needs)
     put-four-requires
-    add-put-figure
+    (λ c. search needs)
     put-figure-requires
     same-length
     returns)

@@ -9,18 +9,6 @@ use borrow.Author.Needs.{needs}
 use Rattle.sheet_writer.proofs.put_temperature.Statement.{statement}
 use Rattle.sheet_writer.proofs.put_temperature.Tie as tie
 
-slice-write-out : tie.Need-slice-write-out
-slice-write-out c = search needs
-
-add-put-temperature-points : tie.Need-add-put-temperature-points
-add-put-temperature-points c = search needs
-
-cast-put-temperature-points : tie.Need-cast-put-temperature-points
-cast-put-temperature-points c = search needs
-
-put-temperature-points-requires : tie.Need-put-temperature-points-requires
-put-temperature-points-requires c κs = search needs
-
 same-length : tie.Need-same-length
 same-length c = c .before .before .put-temperature-points .kept .0 ∙ simp length-set
 
@@ -34,9 +22,9 @@ pub put-temperature-spec : {M : Type 1} → statement M
 put-temperature-spec =
     tie.close
     (tie.spec
-    slice-write-out
-    add-put-temperature-points
-    cast-put-temperature-points
-    put-temperature-points-requires
+    (λ c. search needs)
+    (λ c. search needs)
+    (λ c. search needs)
+    (λ c κs. search needs)
     same-length
     returns)

@@ -10,24 +10,6 @@ use borrow.Author.Needs.{needs}
 use Rattle.sheet_writer.proofs.put_temperature_point.Statement.{statement}
 use Rattle.sheet_writer.proofs.put_temperature_point.Tie as tie
 
-put-figure-requires : tie.Need-put-figure-requires
-put-figure-requires c κs = search needs
-
-add-put-figure : tie.Need-add-put-figure
-add-put-figure c = search needs
-
-put-figure-requires-2 : tie.Need-put-figure-requires-2
-put-figure-requires-2 c κs = search needs
-
-add-put-figure-2 : tie.Need-add-put-figure-2
-add-put-figure-2 c = search needs
-
-put-figure-requires-3 : tie.Need-put-figure-requires-3
-put-figure-requires-3 c κs = search needs
-
-same-length : tie.Need-same-length
-same-length c = search needs
-
 returns : tie.Need-returns
 unfolding temperaturePointBytes
 returns c =
@@ -44,10 +26,10 @@ pub put-temperature-point-spec : {M : Type 1} → statement M
 put-temperature-point-spec =
     tie.close
     (tie.spec
-    put-figure-requires
-    add-put-figure
-    put-figure-requires-2
-    add-put-figure-2
-    put-figure-requires-3
-    same-length
+    (λ c κs. search needs)
+    (λ c. search needs)
+    (λ c κs. search needs)
+    (λ c. search needs)
+    (λ c κs. search needs)
+    (λ c. search needs)
     returns)

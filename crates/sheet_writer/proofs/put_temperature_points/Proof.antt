@@ -19,27 +19,9 @@ abbrev μ-loop : tie.MeasureT-loop
 loop-holds : tie.Need-loop-holds Inv-loop μ-loop
 loop-holds c = (nothing _ (omega arith) (omega arith), omega arith)
 
-mul-point : tie.Need-mul-point Inv-loop μ-loop
-mul-point c = omega arith
-
-array-copy-out-point : tie.Need-array-copy-out-point Inv-loop μ-loop
-array-copy-out-point c = omega arith
-
-mul-put-temperature-point : tie.Need-mul-put-temperature-point Inv-loop μ-loop
-mul-put-temperature-point c = omega arith
-
-add-put-temperature-point : tie.Need-add-put-temperature-point Inv-loop μ-loop
-add-put-temperature-point c = omega arith
-
 put-temperature-point-requires : tie.Need-put-temperature-point-requires Inv-loop μ-loop
 put-temperature-point-requires c κs =
     omega (arith, size (c .before .before .before .loop .inv .0))
-
-add-i : tie.Need-add-i Inv-loop μ-loop
-add-i c = omega arith
-
-loop-less : tie.Need-loop-less Inv-loop μ-loop
-loop-less c = omega arith
 
 loop-again : tie.Need-loop-again Inv-loop μ-loop
 loop-again c =
@@ -63,13 +45,13 @@ put-temperature-points-spec =
     Inv-loop
     μ-loop
     loop-holds
-    mul-point
-    array-copy-out-point
-    mul-put-temperature-point
-    add-put-temperature-point
+    (λ c. omega arith)
+    (λ c. omega arith)
+    (λ c. omega arith)
+    (λ c. omega arith)
     put-temperature-point-requires
-    add-i
-    loop-less
+    (λ c. omega arith)
+    (λ c. omega arith)
     loop-again
     same-length
     returns)

@@ -8,16 +8,10 @@ use borrow.Author.Needs.{needs}
 use Rattle.sheet_writer.proofs.write.Statement.{statement}
 use Rattle.sheet_writer.proofs.write.Tie as tie
 
-judge-requires : tie.Need-judge-requires
-judge-requires c κs = search needs
-
 returns : tie.Need-returns
 returns c =
     let a = c .before .before .before .args in
     refused (a .figures) (a .out .now) _ (c .before .judge .ensures) (c .if1 .taken)
-
-sheet-length-requires : tie.Need-sheet-length-requires
-sheet-length-requires c κs = search needs
 
 returns-2 : tie.Need-returns-2
 returns-2 c =
@@ -28,9 +22,6 @@ put-sheet-requires : tie.Need-put-sheet-requires
 put-sheet-requires c κs =
     let k = counts-in (c .before .before .before .before .before .before .args .figures) (sym (c .before .before .before .before .judge .ensures) ∙ c .before .before .before .if1 .left) in
     (k .0, k .1, rw (c .before .before .sheet-length .ensures .0) at (c .before .if2 .left))
-
-same-length : tie.Need-same-length
-same-length c = search needs
 
 returns-3 : tie.Need-returns-3
 returns-3 c =
@@ -44,10 +35,10 @@ pub write-spec : {M : Type 1} → statement M
 write-spec =
     tie.close
     (tie.spec
-    judge-requires
+    (λ c κs. search needs)
     returns
-    sheet-length-requires
+    (λ c κs. search needs)
     returns-2
     put-sheet-requires
-    same-length
+    (λ c. search needs)
     returns-3)

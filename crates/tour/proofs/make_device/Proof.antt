@@ -42,30 +42,6 @@ front out after {w} h d e a =
     let b : after ≡ sheetBytes defaultSheet ++ drop 173 out = a ∙ simp (d, accepted out h, length-is) in
     record { fits = rw (n, b, length-append, bytes-are) (omega arith); is = rw (n, b) (take-at (sheetBytes defaultSheet) (drop 173 out) 173 bytes-are) }
 
-new-requires : tie.Need-new-requires
-new-requires c κs = search needs
-
-slice-aggregate-write : tie.Need-slice-aggregate-write
-slice-aggregate-write c = search needs
-
-write-requires : tie.Need-write-requires
-write-requires c κs = search needs
-
-slice-aggregate-print-call : tie.Need-slice-aggregate-print-call
-slice-aggregate-print-call c = search needs
-
-slice-aggregate-print-call-2 : tie.Need-slice-aggregate-print-call-2
-slice-aggregate-print-call-2 c = search needs
-
-print-call-requires : tie.Need-print-call-requires
-print-call-requires c κs = search needs
-
-print-length-requires : tie.Need-print-length-requires
-print-length-requires c κs = search needs
-
-end-line-requires : tie.Need-end-line-requires
-end-line-requires c κs = search needs
-
 module _ (c : tie.After-write) where
   fronted : Front (c .write .result) (c .write .last .1 .0)
   fronted = front _ _ refl (c .before .before .new .ensures) (c .write .ensures .0) (c .write .ensures .1)
@@ -76,21 +52,6 @@ array-share-prefix-buffer c = fronted (c .before .before .before .before .before
 slice-aggregate-make : tie.Need-slice-aggregate-make
 slice-aggregate-make c = let w = c .before .before .before .before .before .before .before in sym (length-take-le _ _ (fronted w .fits))
 
-make-requires : tie.Need-make-requires
-make-requires c κs = search needs
-
-slice-aggregate-print-call-3 : tie.Need-slice-aggregate-print-call-3
-slice-aggregate-print-call-3 c = search needs
-
-slice-aggregate-print-call-4 : tie.Need-slice-aggregate-print-call-4
-slice-aggregate-print-call-4 c = search needs
-
-print-call-requires-2 : tie.Need-print-call-requires-2
-print-call-requires-2 c κs = search needs
-
-end-line-requires-2 : tie.Need-end-line-requires-2
-end-line-requires-2 c κs = search needs
-
 returns : tie.Need-returns
 returns c =
     let m = c .before .before .before .before in
@@ -100,19 +61,19 @@ pub make-device-spec : {M : Type 1} → statement M
 make-device-spec =
     tie.close
     (tie.spec
-    new-requires
-    slice-aggregate-write
-    write-requires
-    slice-aggregate-print-call
-    slice-aggregate-print-call-2
-    print-call-requires
-    print-length-requires
-    end-line-requires
+    (λ c κs. search needs)
+    (λ c. search needs)
+    (λ c κs. search needs)
+    (λ c. search needs)
+    (λ c. search needs)
+    (λ c κs. search needs)
+    (λ c κs. search needs)
+    (λ c κs. search needs)
     array-share-prefix-buffer
     slice-aggregate-make
-    make-requires
-    slice-aggregate-print-call-3
-    slice-aggregate-print-call-4
-    print-call-requires-2
-    end-line-requires-2
+    (λ c κs. search needs)
+    (λ c. search needs)
+    (λ c. search needs)
+    (λ c κs. search needs)
+    (λ c κs. search needs)
     returns)

@@ -6,18 +6,6 @@ use borrow.Author.Needs.{needs}
 use Rattle.tour.proofs.take_reading.Statement.{statement}
 use Rattle.tour.proofs.take_reading.Tie as tie
 
-reading-requires : tie.Need-reading-requires
-reading-requires c κs = search needs
-
-slice-aggregate-print-call : tie.Need-slice-aggregate-print-call
-slice-aggregate-print-call c = search needs
-
-print-call-requires : tie.Need-print-call-requires
-print-call-requires c κs = search needs
-
-end-line-requires : tie.Need-end-line-requires
-end-line-requires c κs = search needs
-
 returns : tie.Need-returns
 returns c =
     let s = c .before .before .before .before .before .before in
@@ -28,8 +16,8 @@ pub take-reading-spec : {M : Type 1} → statement M
 take-reading-spec =
     tie.close
     (tie.spec
-    reading-requires
-    slice-aggregate-print-call
-    print-call-requires
-    end-line-requires
+    (λ c κs. search needs)
+    (λ c. search needs)
+    (λ c κs. search needs)
+    (λ c κs. search needs)
     returns)

@@ -63,8 +63,5 @@ cast-result-2 c =
     let h : pos 0 ≤ℤ c .before .args .n = lt-no (simp (toZ-ofZ, c .before .fits .n) at (c .if1 .left)) in
     simp (toZ-ofZ, c .before .fits .n) (yes-nonNeg h, record { fits = omega (ints, abs-parts (c .before .args .n), fits-pos-part (c .before .fits .n), fits-neg-part (c .before .fits .n)) })
 
-returns-2 : tie.Need-returns-2
-returns-2 c = search needs
-
 pub magnitude-spec : {M : Type 1} → statement M
-magnitude-spec = tie.close (tie.spec add-result sub-result cast-result add-result-2 returns cast-result-2 returns-2)
+magnitude-spec = tie.close (tie.spec add-result sub-result cast-result add-result-2 returns cast-result-2 (λ c. search needs))

@@ -18,9 +18,6 @@ in-word c = word-at (c .before .before .args .x) true true (c .before .if1 .take
 whole-part-requires : tie.Need-whole-part-requires
 whole-part-requires c κs = is-true (in-word c)
 
-int-to-float-result : tie.Need-int-to-float-result
-int-to-float-result c = search needs
-
 returns : tie.Need-returns
 returns c =
     let x = c .before .before .before .before .args .x in
@@ -33,4 +30,4 @@ returns-3 : tie.Need-returns-3
 returns-3 c = let x = c .before .args .x in unfit x (word-at x false (le x (ofBits binary32 0x477F_FF00)) (c .if1 .left) refl)
 
 pub flag-fits-spec : {M : Type 1} → statement M
-flag-fits-spec = tie.close (tie.spec whole-part-requires int-to-float-result returns returns-2 returns-3)
+flag-fits-spec = tie.close (tie.spec whole-part-requires (λ c. search needs) returns returns-2 returns-3)

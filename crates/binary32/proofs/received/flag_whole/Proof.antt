@@ -20,9 +20,6 @@ in-word : (x : Float) → flagFits x ≡ true → T (inWord x)
 unfolding flagFits
 in-word x h = and-l (inWord x) (eqb (natAbs (exact x .top) % natAbs (exact x .low)) 0) (is-true h)
 
-flag-fits-requires : tie.Need-flag-fits-requires
-flag-fits-requires c κs = search needs
-
 whole-part-requires : tie.Need-whole-part-requires
 whole-part-requires c κs = in-word (c .before .before .args .x) (sym (c .before .flag-fits .ensures) ∙ c .if1 .taken)
 
@@ -33,4 +30,4 @@ returns-2 : tie.Need-returns-2
 returns-2 c = whole-at (c .before .before .args .x) false (sym (c .if1 .left) ∙ c .before .flag-fits .ensures)
 
 pub flag-whole-spec : {M : Type 1} → statement M
-flag-whole-spec = tie.close (tie.spec flag-fits-requires whole-part-requires returns returns-2)
+flag-whole-spec = tie.close (tie.spec (λ c κs. search needs) whole-part-requires returns returns-2)

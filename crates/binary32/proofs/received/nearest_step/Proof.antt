@@ -29,9 +29,6 @@ cast-bits c = omega (arith, bits-lt (c .args .x) (held c) (c .pre))
 returns : tie.Need-returns
 returns c = zero-is (c .before .args .x) (held (c .before)) (c .before .pre) (c .if1 .taken)
 
-add-digits : tie.Need-add-digits
-add-digits c = search needs
-
 shl-units : tie.Need-shl-units
 shl-units c = omega (arith, e-top (c .before .args .x) (held (c .before)) (c .before .pre))
 
@@ -69,4 +66,4 @@ returns-3 c =
 pub nearest-step-spec : {M : Type 1} → statement M
 nearest-step-spec =
     tie.close
-    (tie.spec float-to-bits-bits cast-bits returns add-digits shl-units cast-units add-result returns-2 sub-result returns-3)
+    (tie.spec float-to-bits-bits cast-bits returns (λ c. search needs) shl-units cast-units add-result returns-2 sub-result returns-3)

@@ -15,9 +15,6 @@ steps-at : (x : Float) (b : Bool) → b ≡ zeroFits x → cond b (nearestStep x
 unfolding zeroSteps
 steps-at x b h = ap (λ (t : Bool). cond t (nearestStep x) (pos 0)) h
 
-zero-fits-requires : tie.Need-zero-fits-requires
-zero-fits-requires c κs = search needs
-
 nearest-step-requires : tie.Need-nearest-step-requires
 nearest-step-requires c κs = is-true (sym (c .before .zero-fits .ensures) ∙ c .if1 .taken)
 
@@ -31,4 +28,4 @@ returns-2 : tie.Need-returns-2
 returns-2 c = steps-at (c .before .before .args .x) false (sym (c .if1 .left) ∙ c .before .zero-fits .ensures)
 
 pub zero-steps-spec : {M : Type 1} → statement M
-zero-steps-spec = tie.close (tie.spec zero-fits-requires nearest-step-requires returns returns-2)
+zero-steps-spec = tie.close (tie.spec (λ c κs. search needs) nearest-step-requires returns returns-2)

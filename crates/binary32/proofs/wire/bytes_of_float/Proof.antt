@@ -31,9 +31,6 @@ swapped n h =
     joined : (a b t d : ℕ) → (d * 65536 + b) * 256 + (t * 65536 + a) ≡ wordOf (a ∷ b ∷ t ∷ d ∷ [])
     joined a b t d = omega arith
 
-bits-of-float-requires : tie.Need-bits-of-float-requires
-bits-of-float-requires c κs = search needs
-
 mul-result : tie.Need-mul-result
 mul-result c = let b = c .bits-of-float .result in omega (arith, masked b, masked (b / 256))
 
@@ -44,4 +41,4 @@ returns : tie.Need-returns
 returns c = let b = c .bits-of-float .result in swapped b (omega arith) ∙ ap (λ (n : ℕ). wordOf (wireBytes n)) (c .bits-of-float .ensures)
 
 pub bytes-of-float-spec : {M : Type 1} → statement M
-bytes-of-float-spec = tie.close (tie.spec bits-of-float-requires mul-result add-result returns)
+bytes-of-float-spec = tie.close (tie.spec (λ c κs. search needs) mul-result add-result returns)

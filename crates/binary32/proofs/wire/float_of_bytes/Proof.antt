@@ -16,24 +16,6 @@ is-nan nan h = refl
 is-nan (inf s) h = absurd (is-true h)
 is-nan (fin s m e) h = absurd (is-true h)
 
-mul-bits : tie.Need-mul-bits
-mul-bits c = search needs
-
-mul-bits-2 : tie.Need-mul-bits-2
-mul-bits-2 c = search needs
-
-add-bits : tie.Need-add-bits
-add-bits c = search needs
-
-mul-bits-3 : tie.Need-mul-bits-3
-mul-bits-3 c = search needs
-
-add-bits-2 : tie.Need-add-bits-2
-add-bits-2 c = search needs
-
-add-bits-3 : tie.Need-add-bits-3
-add-bits-3 c = search needs
-
 returns : tie.Need-returns
 unfolding div ofBits
 returns c =
@@ -44,19 +26,16 @@ returns c =
 float-from-bits-result : tie.Need-float-from-bits-result
 float-from-bits-result c = is-false (nanBits-above binary32 _ ∙ le-ltb _ _ (c .if1 .left))
 
-returns-2 : tie.Need-returns-2
-returns-2 c = search needs
-
 pub float-of-bytes-spec : {M : Type 1} → statement M
 float-of-bytes-spec =
     tie.close
     (tie.spec
-    mul-bits
-    mul-bits-2
-    add-bits
-    mul-bits-3
-    add-bits-2
-    add-bits-3
+    (λ c. search needs)
+    (λ c. search needs)
+    (λ c. search needs)
+    (λ c. search needs)
+    (λ c. search needs)
+    (λ c. search needs)
     returns
     float-from-bits-result
-    returns-2)
+    (λ c. search needs))

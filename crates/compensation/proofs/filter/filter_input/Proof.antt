@@ -53,9 +53,6 @@ returns-2 c =
 sub-change : tie.Need-sub-change
 sub-change c = let p = c .before .before .before .before .before .pre in fits (search i64s depth 9) tt
 
-magnitude-requires : tie.Need-magnitude-requires
-magnitude-requires c κs = search needs
-
 -- the sizes that are compared
 level-is : (s : tie.Start) → natAbs (toZ w64 (ofZ w64 (s .args .f .fflv))) ≡ natAbs (s .args .f .fflv)
 level-is s = rw (toZ-ofZ w64 _ (level-fits s))
@@ -122,4 +119,4 @@ returns-4 c =
     simp (toZ-ofZ, c .before .before .before .before .before .before .before .before .fits .held, r, sum-fits c) (sum-is c)
 
 pub filter-input-spec : {M : Type 1} → statement M
-filter-input-spec = tie.close (tie.spec cast-level returns returns-2 sub-change magnitude-requires returns-3 round-div-requires add-result returns-4)
+filter-input-spec = tie.close (tie.spec cast-level returns returns-2 sub-change (λ c κs. search needs) returns-3 round-div-requires add-result returns-4)

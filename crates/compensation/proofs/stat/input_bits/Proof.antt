@@ -8,12 +8,6 @@ use Rattle.compensation.proofs.StatBits.{inside-none}
 use Rattle.compensation.proofs.stat.input_bits.Statement.{statement}
 use Rattle.compensation.proofs.stat.input_bits.Tie as tie
 
-is-within-requires : tie.Need-is-within-requires
-is-within-requires c κs = search needs
-
-is-within-requires-2 : tie.Need-is-within-requires-2
-is-within-requires-2 c κs = search needs
-
 returns : tie.Need-returns
 unfolding inputBits
 returns c =
@@ -24,15 +18,6 @@ returns c =
     let of-elec : range elecUnder elecOver (s .args .elec) 16 32 ≡ 0 = inside-none elecUnder elecOver (s .args .elec) 16 32 (sym (simp (toZ-ofZ, s .fits .elec) at (e .is-within2 .ensures)) ∙ c .before .if2 .taken) in
     let sound : s .args .integrity ≡ 0 = eqb-true (s .args .integrity) 0 (c .if3 .taken) in
     rw (of-temp, of-elec, sound)
-
-range-bits-requires : tie.Need-range-bits-requires
-range-bits-requires c κs = search needs
-
-range-bits-requires-2 : tie.Need-range-bits-requires-2
-range-bits-requires-2 c κs = search needs
-
-weight-if-requires : tie.Need-weight-if-requires
-weight-if-requires c κs = search needs
 
 returns-2 : tie.Need-returns-2
 unfolding inputBits
@@ -46,10 +31,10 @@ pub input-bits-spec : {M : Type 1} → statement M
 input-bits-spec =
     tie.close
     (tie.spec
-    is-within-requires
-    is-within-requires-2
+    (λ c κs. search needs)
+    (λ c κs. search needs)
     returns
-    range-bits-requires
-    range-bits-requires-2
-    weight-if-requires
+    (λ c κs. search needs)
+    (λ c κs. search needs)
+    (λ c κs. search needs)
     returns-2)

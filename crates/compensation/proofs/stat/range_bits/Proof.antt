@@ -4,12 +4,6 @@ use borrow.Author.Needs.{needs}
 use Rattle.compensation.proofs.stat.range_bits.Statement.{statement}
 use Rattle.compensation.proofs.stat.range_bits.Tie as tie
 
-weight-if-requires : tie.Need-weight-if-requires
-weight-if-requires c κs = search needs
-
-weight-if-requires-2 : tie.Need-weight-if-requires-2
-weight-if-requires-2 c κs = search needs
-
 returns : tie.Need-returns
 returns c =
     let s = c .before .before in
@@ -18,4 +12,4 @@ returns c =
     rw (under, over)
 
 pub range-bits-spec : {M : Type 1} → statement M
-range-bits-spec = tie.close (tie.spec weight-if-requires weight-if-requires-2 returns)
+range-bits-spec = tie.close (tie.spec (λ c κs. search needs) (λ c κs. search needs) returns)

@@ -11,9 +11,6 @@ use borrow.Author.Needs.{needs}
 use Rattle.compensation.proofs.steps.corrected.Statement.{statement}
 use Rattle.compensation.proofs.steps.corrected.Tie as tie
 
-correction-requires : tie.Need-correction-requires
-correction-requires c κs = search needs
-
 module _ (c : tie.After-correction) where
   result-is : c .correction .result ≡ interpolated 1 (linearities (c .before .args .table)) (c .before .args .craw)
   result-is = simp (toZ-ofZ, c .before .fits .craw) at (c .correction .ensures)
@@ -28,4 +25,4 @@ returns : tie.Need-returns
 returns c = let h = result-in c in plain (search i64s depth 9) tt ∙ ap (λ (k : ℤ). c .before .args .craw +ℤ k) (result-is c)
 
 pub corrected-spec : {M : Type 1} → statement M
-corrected-spec = tie.close (tie.spec correction-requires add-result returns)
+corrected-spec = tie.close (tie.spec (λ c κs. search needs) add-result returns)

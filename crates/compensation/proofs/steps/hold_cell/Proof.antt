@@ -7,9 +7,6 @@ use borrow.Author.Needs.{needs}
 use Rattle.compensation.proofs.steps.hold_cell.Statement.{statement}
 use Rattle.compensation.proofs.steps.hold_cell.Tie as tie
 
-hold-within-requires : tie.Need-hold-within-requires
-hold-within-requires c κs = search needs
-
 returns : tie.Need-returns
 returns c =
     let s = c .before .before .before in
@@ -18,4 +15,4 @@ returns c =
     toZ-ofZ w64 _ (record { sfits = c .hold-within .ok }) ∙ (simp (lo, hi, toZ-ofZ, s .fits .raw) at (c .hold-within .ensures))
 
 pub hold-cell-spec : {M : Type 1} → statement M
-hold-cell-spec = tie.close (tie.spec hold-within-requires returns)
+hold-cell-spec = tie.close (tie.spec (λ c κs. search needs) returns)

@@ -7,9 +7,6 @@ use borrow.Author.Needs.{needs}
 use Rattle.compensation.proofs.steps.input_at.Statement.{statement}
 use Rattle.compensation.proofs.steps.input_at.Tie as tie
 
-adjustments-requires : tie.Need-adjustments-requires
-adjustments-requires c κs = search needs
-
 returns : tie.Need-returns
 returns c =
     let s = c .before .before in
@@ -19,4 +16,4 @@ returns c =
     rw (toZ-ofZ w64 _ (s .fits .elec), o-is, g-is, simp (toZ-ofZ, s .fits .temp) at (c .before .adjustments .ensures))
 
 pub input-at-spec : {M : Type 1} → statement M
-input-at-spec = tie.close (tie.spec adjustments-requires returns)
+input-at-spec = tie.close (tie.spec (λ c κs. search needs) returns)

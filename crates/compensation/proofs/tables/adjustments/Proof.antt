@@ -6,12 +6,6 @@ use borrow.Author.Needs.{needs}
 use Rattle.compensation.proofs.tables.adjustments.Statement.{statement}
 use Rattle.compensation.proofs.tables.adjustments.Tie as tie
 
-cast-count : tie.Need-cast-count
-cast-count c = search needs
-
-temperature-rows-requires : tie.Need-temperature-rows-requires
-temperature-rows-requires c κs = search needs
-
 interpolate-two-requires : tie.Need-interpolate-two-requires
 unfolding temperatures
 interpolate-two-requires c κs =
@@ -26,4 +20,4 @@ returns c =
 
 pub adjustments-spec : {M : Type 1} → statement M
 adjustments-spec =
-    tie.close (tie.spec cast-count temperature-rows-requires interpolate-two-requires returns)
+    tie.close (tie.spec (λ c. search needs) (λ c κs. search needs) interpolate-two-requires returns)

@@ -8,12 +8,6 @@ use borrow.Author.Needs.{needs}
 use Rattle.compensation.proofs.tables.correction.Statement.{statement}
 use Rattle.compensation.proofs.tables.correction.Tie as tie
 
-cast-count : tie.Need-cast-count
-cast-count c = search needs
-
-linearity-rows-requires : tie.Need-linearity-rows-requires
-linearity-rows-requires c κs = search needs
-
 interpolate-one-requires : tie.Need-interpolate-one-requires
 unfolding linearities
 interpolate-one-requires c κs =
@@ -28,4 +22,4 @@ returns c =
 
 pub correction-spec : {M : Type 1} → statement M
 correction-spec =
-    tie.close (tie.spec cast-count linearity-rows-requires interpolate-one-requires returns)
+    tie.close (tie.spec (λ c. search needs) (λ c κs. search needs) interpolate-one-requires returns)

@@ -9,22 +9,10 @@ use Rattle.converter.proofs.Entries.{serves}
 use Rattle.converter.proofs.Device.frame.Statement.{statement}
 use Rattle.converter.proofs.Device.frame.Tie as tie
 
-judge-requires : tie.Need-judge-requires
-judge-requires c κs = search needs
-
 answer-requires : tie.Need-answer-requires
 answer-requires c κs =
     let s = c .before .before .before .before .before .before .before .before in
     record { device = s .args .self; reached = s .pre; state-is = refl; sz-is = sym (kept (state-within (reached-sound (s .pre)) .sz-in)) }
-
-setup-after-requires : tie.Need-setup-after-requires
-setup-after-requires c κs = search needs
-
-state-after-requires : tie.Need-state-after-requires
-state-after-requires c κs = search needs
-
-same-length : tie.Need-same-length
-same-length c = search needs
 
 returns : tie.Need-returns
 returns c =
@@ -34,4 +22,4 @@ returns c =
     serves (s .pre) (now (s .args .frame)) (now (s .args .reply)) _ (q .judge .ensures) (rw (kept (state-within (reached-sound (s .pre)) .sz-in)) at (a .answer .ensures)) (c .before .setup-after .ensures) (c .state-after .ensures)
 
 pub frame-spec : {M : Type 1} → statement M
-frame-spec = tie.close (tie.spec judge-requires answer-requires setup-after-requires state-after-requires same-length returns)
+frame-spec = tie.close (tie.spec (λ c κs. search needs) answer-requires (λ c κs. search needs) (λ c κs. search needs) (λ c. search needs) returns)

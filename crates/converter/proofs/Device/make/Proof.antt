@@ -34,31 +34,16 @@ starts : (sheet : List ℕ) (station : ℕ) {s : Sheet} {t : State} → stationF
 unfolding made
 starts sheet station f s n t = rw (f, rw s at n, s, t)
 
-station-fits-requires : tie.Need-station-fits-requires
-station-fits-requires c κs = search needs
-
-refused-requires : tie.Need-refused-requires
-refused-requires c κs = search needs
-
 returns : tie.Need-returns
 returns c =
     let f = c .before .before in
     makes _ _ (wrong-station (now (f .before .before .args .sheet)) (f .before .before .args .station) (sym (f .station-fits .ensures) ∙ not-true (f .station-fits .result) (c .before .if1 .taken)) (c .refused .ensures))
-
-read-requires : tie.Need-read-requires
-read-requires c κs = search needs
-
-refused-requires-2 : tie.Need-refused-requires-2
-refused-requires-2 c κs = search needs
 
 returns-2 : tie.Need-returns-2
 returns-2 c =
     let r = c .before .before .before in
     let f = r .before .before in
     makes _ _ (wrong-sheet (now (f .before .before .args .sheet)) (f .before .before .args .station) (sym (f .station-fits .ensures) ∙ not-false (f .station-fits .result) (r .before .if1 .left)) (r .read .ensures) (ne-eqb _ 0 (c .before .if2 .taken)) (c .refused2 .ensures))
-
-fresh-requires : tie.Need-fresh-requires
-fresh-requires c κs = search needs
 
 returns-3 : tie.Need-returns-3
 returns-3 c =
@@ -70,11 +55,11 @@ pub make-spec : {M : Type 1} → statement M
 make-spec =
     tie.close
     (tie.spec
-    station-fits-requires
-    refused-requires
+    (λ c κs. search needs)
+    (λ c κs. search needs)
     returns
-    read-requires
-    refused-requires-2
+    (λ c κs. search needs)
+    (λ c κs. search needs)
     returns-2
-    fresh-requires
+    (λ c κs. search needs)
     returns-3)

@@ -15,9 +15,6 @@ use Rattle.converter.proofs.Entries.{refuses, filters, adjusts, correct
 use Rattle.converter.proofs.Device.reading.Statement.{statement}
 use Rattle.converter.proofs.Device.reading.Tie as tie
 
-bad-reading-requires : tie.Need-bad-reading-requires
-bad-reading-requires c κs = search needs
-
 returns : tie.Need-returns
 returns c =
     let s = c .before .before in
@@ -68,9 +65,6 @@ values-from-requires c κs =
     let s = start-of (i .before) in
     scales (s .pre) (s .args .elec) (s .args .temp) (s .args .integrity) (good (else-of (i .before))) (held-is (i .before)) (input-is i) (c .cell-values .ensures)
 
-take-requires : tie.Need-take-requires
-take-requires c κs = search needs
-
 returns-2 : tie.Need-returns-2
 returns-2 c =
     let v = c .before in
@@ -81,4 +75,4 @@ returns-2 c =
 
 pub reading-spec : {M : Type 1} → statement M
 reading-spec =
-    tie.close (tie.spec bad-reading-requires returns held-after-requires input-at-requires cell-values-requires values-from-requires take-requires returns-2)
+    tie.close (tie.spec (λ c κs. search needs) returns held-after-requires input-at-requires cell-values-requires values-from-requires (λ c κs. search needs) returns-2)

@@ -7,8 +7,5 @@ use Rattle.converter.proofs.Device.report.Tie as tie
 report-of-requires : tie.Need-report-of-requires
 report-of-requires c κs = reached-sound (c .before .pre) .state-ok .readings-ok .values-in
 
-returns : tie.Need-returns
-returns c = search needs
-
 pub report-spec : {M : Type 1} → statement M
-report-spec = tie.close (tie.spec report-of-requires returns)
+report-spec = tie.close (tie.spec report-of-requires (λ c. search needs))

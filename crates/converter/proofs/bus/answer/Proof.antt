@@ -27,15 +27,6 @@ within h = rw (← h .state-is, ← h .sz-is) (state-within (reached-sound (h .r
 answer-to-requires : tie.Need-answer-to-requires
 answer-to-requires c κs = let h = within (c .before .before .pre) in rw (kept (h .sz-in)) h
 
-reply-with-requires : tie.Need-reply-with-requires
-reply-with-requires c κs = search needs
-
-number-in-requires : tie.Need-number-in-requires
-number-in-requires c κs = search needs
-
-same-length : tie.Need-same-length
-same-length c = search needs
-
 returns : tie.Need-returns
 returns c =
     let b = c .before .before .before in
@@ -44,4 +35,4 @@ returns c =
     answers (now (s .args .frame)) (now (s .args .reply)) _ (rw (kept (within (s .pre) .sz-in)) at (a .answer-to .ensures)) (b .reply-with .ensures) (c .number-in .ensures)
 
 pub answer-spec : {M : Type 1} → statement M
-answer-spec = tie.close (tie.spec answer-to-requires reply-with-requires number-in-requires same-length returns)
+answer-spec = tie.close (tie.spec answer-to-requires (λ c κs. search needs) (λ c κs. search needs) (λ c. search needs) returns)

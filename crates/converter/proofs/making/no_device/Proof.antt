@@ -13,14 +13,8 @@ built : {f : Calibration} {s : State} → f ≡ noFigures → s ≡ fresh → re
 unfolding fresh
 built e h = rw (e, h)
 
-no-figures-requires : tie.Need-no-figures-requires
-no-figures-requires c κs = search needs
-
-fresh-requires : tie.Need-fresh-requires
-fresh-requires c κs = search needs
-
 returns : tie.Need-returns
 returns c = built (c .before .no-figures .ensures) (c .fresh .ensures)
 
 pub no-device-spec : {M : Type 1} → statement M
-no-device-spec = tie.close (tie.spec no-figures-requires fresh-requires returns)
+no-device-spec = tie.close (tie.spec (λ c κs. search needs) (λ c κs. search needs) returns)

@@ -10,11 +10,8 @@ use Rattle.converter.proofs.making.refused.Tie as tie
 built : (n : ℕ) {d : Device} → d ≡ noDevice → record { number = n; device = d } ≡ refused n
 built n e = rw e
 
-no-device-requires : tie.Need-no-device-requires
-no-device-requires c κs = search needs
-
 returns : tie.Need-returns
 returns c = built (c .before .args .number) (c .no-device .ensures)
 
 pub refused-spec : {M : Type 1} → statement M
-refused-spec = tie.close (tie.spec no-device-requires returns)
+refused-spec = tie.close (tie.spec (λ c κs. search needs) returns)

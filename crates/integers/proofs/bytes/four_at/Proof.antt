@@ -7,17 +7,8 @@ use borrow.Author.Needs.{needs}
 use Rattle.integers.proofs.bytes.four_at.Statement.{statement}
 use Rattle.integers.proofs.bytes.four_at.Tie as tie
 
-shared-slice-read-low : tie.Need-shared-slice-read-low
-shared-slice-read-low c = search needs
-
 cast-low : tie.Need-cast-low
 cast-low c = omega (arith, c .shared-slice-known .given (c .before .args .at))
-
-add-low : tie.Need-add-low
-add-low c = search needs
-
-shared-slice-read-low-2 : tie.Need-shared-slice-read-low-2
-shared-slice-read-low-2 c = search needs
 
 cast-low-2 : tie.Need-cast-low-2
 cast-low-2 c = omega (arith, c .shared-slice-known2 .given (c .before .before .args .at + 1))
@@ -31,12 +22,6 @@ add-low-2 c =
     let byte = c .shared-slice-known2 .given in
     omega (arith, byte at, byte (at + 1))
 
-add-result : tie.Need-add-result
-add-result c = search needs
-
-shared-slice-read-result : tie.Need-shared-slice-read-result
-shared-slice-read-result c = search needs
-
 cast-result : tie.Need-cast-result
 cast-result c = omega (arith, c .shared-slice-known3 .given (c .before .before .before .args .at + 2))
 
@@ -48,12 +33,6 @@ add-result-2 c =
     let at = c .before .before .before .args .at in
     let byte = c .shared-slice-known3 .given in
     omega (arith, byte at, byte (at + 1), byte (at + 2))
-
-add-result-3 : tie.Need-add-result-3
-add-result-3 c = search needs
-
-shared-slice-read-result-2 : tie.Need-shared-slice-read-result-2
-shared-slice-read-result-2 c = search needs
 
 cast-result-2 : tie.Need-cast-result-2
 cast-result-2 c = omega (arith, c .shared-slice-known4 .given (c .before .before .before .before .args .at + 3))
@@ -74,20 +53,20 @@ pub four-at-spec : {M : Type 1} → statement M
 four-at-spec =
     tie.close
     (tie.spec
-    shared-slice-read-low
+    (λ c. search needs)
     cast-low
-    add-low
-    shared-slice-read-low-2
+    (λ c. search needs)
+    (λ c. search needs)
     cast-low-2
     mul-low
     add-low-2
-    add-result
-    shared-slice-read-result
+    (λ c. search needs)
+    (λ c. search needs)
     cast-result
     mul-result
     add-result-2
-    add-result-3
-    shared-slice-read-result-2
+    (λ c. search needs)
+    (λ c. search needs)
     cast-result-2
     mul-result-2
     add-result-4

@@ -19,18 +19,6 @@ abbrev μ-loop : tie.MeasureT-loop
 loop-holds : tie.Need-loop-holds Inv-loop μ-loop
 loop-holds c = (omega arith, refl)
 
-sub-loop : tie.Need-sub-loop Inv-loop μ-loop
-sub-loop c = search needs
-
-take-eight-requires : tie.Need-take-eight-requires Inv-loop μ-loop
-take-eight-requires c κs = search needs
-
-add-i : tie.Need-add-i Inv-loop μ-loop
-add-i c = search needs
-
-loop-less : tie.Need-loop-less Inv-loop μ-loop
-loop-less c = search needs
-
 loop-again : tie.Need-loop-again Inv-loop μ-loop
 loop-again c =
     let a = c .before .before .before .before .args in
@@ -45,9 +33,6 @@ returns c =
 take-rest-requires : tie.Need-take-rest-requires Inv-loop μ-loop
 take-rest-requires c κs = let l = c .before .before .loop in (omega arith, omega arith, omega arith, l .inv .1)
 
-returns-2 : tie.Need-returns-2 Inv-loop μ-loop
-returns-2 c = search needs
-
 pub checksum-of-front-spec : {M : Type 1} → statement M
 checksum-of-front-spec =
     tie.close
@@ -55,11 +40,11 @@ checksum-of-front-spec =
     Inv-loop
     μ-loop
     loop-holds
-    sub-loop
-    take-eight-requires
-    add-i
-    loop-less
+    (λ c. search needs)
+    (λ c κs. search needs)
+    (λ c. search needs)
+    (λ c. search needs)
     loop-again
     returns
     take-rest-requires
-    returns-2)
+    (λ c. search needs))

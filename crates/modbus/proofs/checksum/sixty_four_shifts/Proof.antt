@@ -9,32 +9,14 @@ use borrow.Author.Needs.{needs}
 use Rattle.modbus.proofs.checksum.sixty_four_shifts.Statement.{statement}
 use Rattle.modbus.proofs.checksum.sixty_four_shifts.Tie as tie
 
-mul-upper : tie.Need-mul-upper
-mul-upper c = search needs
-
 mul-multiple : tie.Need-mul-multiple
 mul-multiple c = omega (arith, upper-fits (c .args .x) (omega arith))
-
-mul-folded : tie.Need-mul-folded
-mul-folded c = search needs
-
-mul-remainder : tie.Need-mul-remainder
-mul-remainder c = search needs
-
-mul-remainder-2 : tie.Need-mul-remainder-2
-mul-remainder-2 c = search needs
-
-cast-odd : tie.Need-cast-odd
-cast-odd c = search needs
 
 mul-result : tie.Need-mul-result
 mul-result c = omega (arith, remainder-fits (c .args .x) (omega arith))
 
 cast-result : tie.Need-cast-result
 cast-result c = omega (arith, remainder-fits (c .args .x) (omega arith))
-
-mul-result-2 : tie.Need-mul-result-2
-mul-result-2 c = search needs
 
 returns : tie.Need-returns
 unfolding sixtyFour
@@ -48,13 +30,13 @@ pub sixty-four-shifts-spec : {M : Type 1} → statement M
 sixty-four-shifts-spec =
     tie.close
     (tie.spec
-    mul-upper
+    (λ c. search needs)
     mul-multiple
-    mul-folded
-    mul-remainder
-    mul-remainder-2
-    cast-odd
+    (λ c. search needs)
+    (λ c. search needs)
+    (λ c. search needs)
+    (λ c. search needs)
     mul-result
     cast-result
-    mul-result-2
+    (λ c. search needs)
     returns)

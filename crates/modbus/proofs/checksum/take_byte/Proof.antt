@@ -15,17 +15,8 @@ use borrow.Author.Needs.{needs}
 use Rattle.modbus.proofs.checksum.take_byte.Statement.{statement}
 use Rattle.modbus.proofs.checksum.take_byte.Tie as tie
 
-shared-slice-read-low : tie.Need-shared-slice-read-low
-shared-slice-read-low c = search needs
-
 cast-low : tie.Need-cast-low
 cast-low c = omega (arith, c .shared-slice-known2 .given (c .before .before .args .i))
-
-mul-sixteen-shifts : tie.Need-mul-sixteen-shifts
-mul-sixteen-shifts c = search needs
-
-sixteen-shifts-requires : tie.Need-sixteen-shifts-requires
-sixteen-shifts-requires c κs = search needs
 
 returns : tie.Need-returns
 returns c =
@@ -40,4 +31,4 @@ returns c =
 pub take-byte-spec : {M : Type 1} → statement M
 take-byte-spec =
     tie.close
-    (tie.spec shared-slice-read-low cast-low mul-sixteen-shifts sixteen-shifts-requires returns)
+    (tie.spec (λ c. search needs) cast-low (λ c. search needs) (λ c κs. search needs) returns)

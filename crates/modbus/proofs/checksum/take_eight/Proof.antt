@@ -11,30 +11,6 @@ use borrow.Author.Needs.{needs}
 use Rattle.modbus.proofs.checksum.take_eight.Statement.{statement}
 use Rattle.modbus.proofs.checksum.take_eight.Tie as tie
 
-four-at-requires : tie.Need-four-at-requires
-four-at-requires c κs = search needs
-
-cast-low : tie.Need-cast-low
-cast-low c = search needs
-
-add-four-at : tie.Need-add-four-at
-add-four-at c = search needs
-
-four-at-requires-2 : tie.Need-four-at-requires-2
-four-at-requires-2 c κs = search needs
-
-cast-high : tie.Need-cast-high
-cast-high c = search needs
-
-mul-sixty-four-shifts : tie.Need-mul-sixty-four-shifts
-mul-sixty-four-shifts c = search needs
-
-add-sixty-four-shifts : tie.Need-add-sixty-four-shifts
-add-sixty-four-shifts c = search needs
-
-sixty-four-shifts-requires : tie.Need-sixty-four-shifts-requires
-sixty-four-shifts-requires c κs = search needs
-
 returns : tie.Need-returns
 returns c =
     let a = c .before .before .before .before .args in
@@ -48,12 +24,12 @@ pub take-eight-spec : {M : Type 1} → statement M
 take-eight-spec =
     tie.close
     (tie.spec
-    four-at-requires
-    cast-low
-    add-four-at
-    four-at-requires-2
-    cast-high
-    mul-sixty-four-shifts
-    add-sixty-four-shifts
-    sixty-four-shifts-requires
+    (λ c κs. search needs)
+    (λ c. search needs)
+    (λ c. search needs)
+    (λ c κs. search needs)
+    (λ c. search needs)
+    (λ c. search needs)
+    (λ c. search needs)
+    (λ c κs. search needs)
     returns)

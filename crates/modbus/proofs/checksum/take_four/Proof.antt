@@ -12,15 +12,6 @@ use borrow.Author.Needs.{needs}
 use Rattle.modbus.proofs.checksum.take_four.Statement.{statement}
 use Rattle.modbus.proofs.checksum.take_four.Tie as tie
 
-four-at-requires : tie.Need-four-at-requires
-four-at-requires c κs = search needs
-
-cast-sixty-four-shifts : tie.Need-cast-sixty-four-shifts
-cast-sixty-four-shifts c = search needs
-
-sixty-four-shifts-requires : tie.Need-sixty-four-shifts-requires
-sixty-four-shifts-requires c κs = search needs
-
 returns : tie.Need-returns
 returns c =
     let a = c .before .before .before .args in
@@ -34,4 +25,4 @@ returns c =
 pub take-four-spec : {M : Type 1} → statement M
 take-four-spec =
     tie.close
-    (tie.spec four-at-requires cast-sixty-four-shifts sixty-four-shifts-requires returns)
+    (tie.spec (λ c κs. search needs) (λ c. search needs) (λ c κs. search needs) returns)

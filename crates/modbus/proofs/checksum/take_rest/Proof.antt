@@ -35,15 +35,6 @@ two-or-none c =
     (λ w. (omega arith, omega arith, w .1 ∙ p .2 ∙ ap (λ (k : ℕ). checksumOf (take k (now (a .bytes)))) (sym (w .2))))
     (c .if2 .came)
 
-sub-if1 : tie.Need-sub-if1
-sub-if1 c = search needs
-
-take-four-requires : tie.Need-take-four-requires
-take-four-requires c κs = search needs
-
-add-i : tie.Need-add-i
-add-i c = search needs
-
 sub-if2 : tie.Need-sub-if2
 sub-if2 c = four-or-none (c .before) .0
 
@@ -75,9 +66,9 @@ pub take-rest-spec : {M : Type 1} → statement M
 take-rest-spec =
     tie.close
     (tie.spec
-    sub-if1
-    take-four-requires
-    add-i
+    (λ c. search needs)
+    (λ c κs. search needs)
+    (λ c. search needs)
     sub-if2
     take-two-requires
     add-i-2

@@ -14,29 +14,17 @@ use borrow.Author.Needs.{needs}
 use Rattle.modbus.proofs.checksum.take_two.Statement.{statement}
 use Rattle.modbus.proofs.checksum.take_two.Tie as tie
 
-add-sixteen-shifts : tie.Need-add-sixteen-shifts
-add-sixteen-shifts c = search needs
-
-shared-slice-read-sixteen-shifts : tie.Need-shared-slice-read-sixteen-shifts
-shared-slice-read-sixteen-shifts c = search needs
-
 cast-sixteen-shifts : tie.Need-cast-sixteen-shifts
 cast-sixteen-shifts c = omega (arith, c .shared-slice-known2 .given (c .before .before .args .i + 1))
 
 mul-sixteen-shifts : tie.Need-mul-sixteen-shifts
 mul-sixteen-shifts c = omega (arith, c .shared-slice-known2 .given (c .before .before .args .i + 1))
 
-shared-slice-read-sixteen-shifts-2 : tie.Need-shared-slice-read-sixteen-shifts-2
-shared-slice-read-sixteen-shifts-2 c = search needs
-
 cast-sixteen-shifts-2 : tie.Need-cast-sixteen-shifts-2
 cast-sixteen-shifts-2 c = omega (arith, c .shared-slice-known3 .given (c .before .before .before .args .i))
 
 add-sixteen-shifts-2 : tie.Need-add-sixteen-shifts-2
 add-sixteen-shifts-2 c = let i = c .before .before .before .args .i in omega (arith, c .shared-slice-known3 .given i, c .shared-slice-known3 .given (i + 1))
-
-sixteen-shifts-requires : tie.Need-sixteen-shifts-requires
-sixteen-shifts-requires c κs = search needs
 
 returns : tie.Need-returns
 returns c =
@@ -50,12 +38,12 @@ pub take-two-spec : {M : Type 1} → statement M
 take-two-spec =
     tie.close
     (tie.spec
-    add-sixteen-shifts
-    shared-slice-read-sixteen-shifts
+    (λ c. search needs)
+    (λ c. search needs)
     cast-sixteen-shifts
     mul-sixteen-shifts
-    shared-slice-read-sixteen-shifts-2
+    (λ c. search needs)
     cast-sixteen-shifts-2
     add-sixteen-shifts-2
-    sixteen-shifts-requires
+    (λ c κs. search needs)
     returns)

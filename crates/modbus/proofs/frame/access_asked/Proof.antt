@@ -19,12 +19,6 @@ odd : (s : List ℕ) (w : ℕ) → w ≡ wordAt s 2 → (w % 2 ≡ 0 → ⊥) �
 unfolding accessAsked
 odd s w e h = simp (ne-eqb (wordAt s 2 % 2) 0 (λ g. h (ap (λ (k : ℕ). k % 2) e ∙ g)))
 
-word-requires : tie.Need-word-requires
-word-requires c κs = search needs
-
-access-to-requires : tie.Need-access-to-requires
-access-to-requires c κs = search needs
-
 returns : tie.Need-returns
 returns c =
     let w = c .before .before .word in
@@ -34,4 +28,4 @@ returns-2 : tie.Need-returns-2
 returns-2 c = let w = c .before .word in odd (now (c .before .before .before .args .frame)) (w .result) (w .ensures) (c .if1 .left)
 
 pub access-asked-spec : {M : Type 1} → statement M
-access-asked-spec = tie.close (tie.spec word-requires access-to-requires returns returns-2)
+access-asked-spec = tie.close (tie.spec (λ c κs. search needs) (λ c κs. search needs) returns returns-2)

@@ -11,13 +11,10 @@ use Rattle.modbus.proofs.Checked.{all-taken}
 use Rattle.modbus.proofs.frame.checksum_right.Statement.{statement}
 use Rattle.modbus.proofs.frame.checksum_right.Tie as tie
 
-checksum-requires : tie.Need-checksum-requires
-checksum-requires c κs = search needs
-
 returns : tie.Need-returns
 returns c =
     let s = now (c .before .before .args .frame) in
     ap (λ (k : ℕ). eqb k 0) (c .checksum .ensures ∙ ap checksumOf (take-length s)) ∙ all-taken s (λ j. omega (arith, c .before .shared-slice-known .given j)) (omega arith)
 
 pub checksum-right-spec : {M : Type 1} → statement M
-checksum-right-spec = tie.close (tie.spec checksum-requires returns)
+checksum-right-spec = tie.close (tie.spec (λ c κs. search needs) returns)

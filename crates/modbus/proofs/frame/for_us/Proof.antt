@@ -23,18 +23,6 @@ returns-2 : tie.Need-returns-2
 unfolding forUs
 returns-2 c = simp (le-leb _ _ (c .before .if1 .left), lt-leb _ _ (c .if2 .taken))
 
-shared-slice-read-to-us : tie.Need-shared-slice-read-to-us
-shared-slice-read-to-us c = search needs
-
-shared-slice-read-to-us-2 : tie.Need-shared-slice-read-to-us-2
-shared-slice-read-to-us-2 c = search needs
-
-to-us-requires : tie.Need-to-us-requires
-to-us-requires c κs = search needs
-
-checksum-right-requires : tie.Need-checksum-right-requires
-checksum-right-requires c κs = search needs
-
 returns-3 : tie.Need-returns-3
 returns-3 c =
     let e = c .before .before .before .before .before in
@@ -53,9 +41,9 @@ for-us-spec =
     (tie.spec
     returns
     returns-2
-    shared-slice-read-to-us
-    shared-slice-read-to-us-2
-    to-us-requires
-    checksum-right-requires
+    (λ c. search needs)
+    (λ c. search needs)
+    (λ c κs. search needs)
+    (λ c κs. search needs)
     returns-3
     returns-4)

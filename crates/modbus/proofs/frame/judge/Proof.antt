@@ -45,14 +45,8 @@ returns : tie.Need-returns
 unfolding judged
 returns c = simp (lt-ltb _ _ (c .if1 .taken))
 
-for-us-requires : tie.Need-for-us-requires
-for-us-requires c κs = search needs
-
 shared-slice-read-function : tie.Need-shared-slice-read-function
 shared-slice-read-function c = long (now (c .before .before .before .before .before .args .frame)) (c .before .before .before .before .before .args .station) (sym (c .before .before .for-us .ensures) ∙ c .before .if2 .taken)
-
-read-asked-requires : tie.Need-read-asked-requires
-read-asked-requires c κs = search needs
 
 returns-2 : tie.Need-returns-2
 returns-2 c =
@@ -60,9 +54,6 @@ returns-2 c =
     let a = u .before .before .before .before .args in
     c .read-asked .ensures
     ∙ reads (now (a .frame)) (a .room) (a .station) (u .before .before .if1 .left) (sym (u .before .for-us .ensures) ∙ u .if2 .taken) (c .before .if3 .taken)
-
-write-asked-requires : tie.Need-write-asked-requires
-write-asked-requires c κs = search needs
 
 returns-3 : tie.Need-returns-3
 returns-3 c =
@@ -87,11 +78,11 @@ judge-spec =
     tie.close
     (tie.spec
     returns
-    for-us-requires
+    (λ c κs. search needs)
     shared-slice-read-function
-    read-asked-requires
+    (λ c κs. search needs)
     returns-2
-    write-asked-requires
+    (λ c κs. search needs)
     returns-3
     returns-4
     returns-5)

@@ -22,43 +22,13 @@ returns : tie.Need-returns
 unfolding writeAsked
 returns c = simp (ne-eqb _ _ (c .if1 .taken))
 
-word-requires : tie.Need-word-requires
-word-requires c κs = search needs
-
 returns-2 : tie.Need-returns-2
 unfolding writeAsked
 returns-2 c = simp (eq-eqb _ _ (c .before .before .if1 .left), ne-eqb _ _ (λ e. c .if2 .taken (c .before .word .ensures ∙ e)))
 
-shared-slice-read-if3 : tie.Need-shared-slice-read-if3
-shared-slice-read-if3 c = search needs
-
 returns-3 : tie.Need-returns-3
 unfolding writeAsked
 returns-3 c = simp (eq-eqb _ _ (c .before .before .before .before .if1 .left), eq-eqb _ _ (sym (c .before .before .before .word .ensures) ∙ c .before .before .if2 .left), ne-eqb _ _ (c .if3 .taken))
-
-shared-slice-read-float-of-bytes : tie.Need-shared-slice-read-float-of-bytes
-shared-slice-read-float-of-bytes c = search needs
-
-shared-slice-read-float-of-bytes-2 : tie.Need-shared-slice-read-float-of-bytes-2
-shared-slice-read-float-of-bytes-2 c = search needs
-
-shared-slice-read-float-of-bytes-3 : tie.Need-shared-slice-read-float-of-bytes-3
-shared-slice-read-float-of-bytes-3 c = search needs
-
-shared-slice-read-float-of-bytes-4 : tie.Need-shared-slice-read-float-of-bytes-4
-shared-slice-read-float-of-bytes-4 c = search needs
-
-float-of-bytes-requires : tie.Need-float-of-bytes-requires
-float-of-bytes-requires c κs = search needs
-
-access-asked-requires : tie.Need-access-asked-requires
-access-asked-requires c κs = search needs
-
-word-requires-2 : tie.Need-word-requires-2
-word-requires-2 c κs = search needs
-
-write-of-requires : tie.Need-write-of-requires
-write-of-requires c κs = search needs
 
 returns-4 : tie.Need-returns-4
 returns-4 c =
@@ -74,16 +44,16 @@ write-asked-spec =
     tie.close
     (tie.spec
     returns
-    word-requires
+    (λ c κs. search needs)
     returns-2
-    shared-slice-read-if3
+    (λ c. search needs)
     returns-3
-    shared-slice-read-float-of-bytes
-    shared-slice-read-float-of-bytes-2
-    shared-slice-read-float-of-bytes-3
-    shared-slice-read-float-of-bytes-4
-    float-of-bytes-requires
-    access-asked-requires
-    word-requires-2
-    write-of-requires
+    (λ c. search needs)
+    (λ c. search needs)
+    (λ c. search needs)
+    (λ c. search needs)
+    (λ c κs. search needs)
+    (λ c κs. search needs)
+    (λ c κs. search needs)
+    (λ c κs. search needs)
     returns-4)

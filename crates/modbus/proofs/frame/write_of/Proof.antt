@@ -16,34 +16,13 @@ by-fit r x e = ap (λ (t : Bool). cond t (Write r x) (Refused 16)) e
 at-access : (r : ℕ) (x : Float) {a b : Access} → a ≡ b → writeOf a r x ≡ writeOf b r x
 at-access r x e = ap (λ (t : Access). writeOf t r x) e
 
-enum-told : tie.Need-enum-told
-enum-told c = search needs
-
-enum-told-2 : tie.Need-enum-told-2
-enum-told-2 c = search needs
-
-enum-told-3 : tie.Need-enum-told-3
-enum-told-3 c = search needs
-
-flag-fits-requires : tie.Need-flag-fits-requires
-flag-fits-requires c κs = search needs
-
 returns : tie.Need-returns
 unfolding writeOf
 returns c = let a = c .before .before .before .before .args in by-fit (a .register) (a .x) (sym (c .if1 .taken) ∙ c .before .flag-fits .ensures) ∙ at-access (a .register) (a .x) (sym (c .before .before .enum-told3 .given .1))
 
-enum-told-4 : tie.Need-enum-told-4
-enum-told-4 c = search needs
-
-zero-fits-requires : tie.Need-zero-fits-requires
-zero-fits-requires c κs = search needs
-
 returns-2 : tie.Need-returns-2
 unfolding writeOf
 returns-2 c = let a = c .before .before .before .before .args in by-fit (a .register) (a .x) (sym (c .if2 .taken) ∙ c .before .zero-fits .ensures) ∙ at-access (a .register) (a .x) (sym (c .before .before .enum-told4 .given .1))
-
-enum-told-5 : tie.Need-enum-told-5
-enum-told-5 c = search needs
 
 returns-3 : tie.Need-returns-3
 unfolding writeOf
@@ -69,15 +48,15 @@ pub write-of-spec : {M : Type 1} → statement M
 write-of-spec =
     tie.close
     (tie.spec
-    enum-told
-    enum-told-2
-    enum-told-3
-    flag-fits-requires
+    (λ c. search needs)
+    (λ c. search needs)
+    (λ c. search needs)
+    (λ c κs. search needs)
     returns
-    enum-told-4
-    zero-fits-requires
+    (λ c. search needs)
+    (λ c κs. search needs)
     returns-2
-    enum-told-5
+    (λ c. search needs)
     returns-3
     returns-4
     returns-5

@@ -28,28 +28,13 @@ returns : tie.Need-returns
 unfolding writeReply
 returns c = simp (ne-eqb _ _ (c .if1 .taken)) (record { count = refl; buffer = refl })
 
-is-silent-requires : tie.Need-is-silent-requires
-is-silent-requires c κs = search needs
-
 returns-2 : tie.Need-returns-2
 returns-2 c =
     let a = c .before .before .before .before .before .args in
     whole (now (a .frame)) (now (a .reply)) (now (a .reply)) 0 (c .before .before .if1 .left) (unreplied (now (a .frame)) (now (a .reply)) (take 6 (now (a .frame))) (sym (c .before .is-silent .ensures) ∙ c .if2 .taken))
 
-four-at-requires : tie.Need-four-at-requires
-four-at-requires c κs = search needs
-
-cast-low : tie.Need-cast-low
-cast-low c = search needs
-
-shared-slice-read-high : tie.Need-shared-slice-read-high
-shared-slice-read-high c = search needs
-
 cast-high : tie.Need-cast-high
 cast-high c = omega (arith, c .shared-slice-known2 .given 4)
-
-shared-slice-read-high-2 : tie.Need-shared-slice-read-high-2
-shared-slice-read-high-2 c = search needs
 
 cast-high-2 : tie.Need-cast-high-2
 cast-high-2 c = omega (arith, c .shared-slice-known3 .given 5)
@@ -68,9 +53,6 @@ add-put c = omega (arith, c .before .shared-slice-known3 .given 4, c .before .sh
 
 put-requires : tie.Need-put-requires
 put-requires c κs = (omega arith, omega arith, omega (arith, enough _ _ (speaks (c .before .before .before .before))))
-
-same-length : tie.Need-same-length
-same-length c = search needs
 
 returns-3 : tie.Need-returns-3
 returns-3 c =
@@ -91,18 +73,18 @@ acknowledgement-spec =
     tie.close
     (tie.spec
     returns
-    is-silent-requires
+    (λ c κs. search needs)
     returns-2
-    four-at-requires
-    cast-low
-    shared-slice-read-high
+    (λ c κs. search needs)
+    (λ c. search needs)
+    (λ c. search needs)
     cast-high
-    shared-slice-read-high-2
+    (λ c. search needs)
     cast-high-2
     mul-high
     add-high
     mul-put
     add-put
     put-requires
-    same-length
+    (λ c. search needs)
     returns-3)

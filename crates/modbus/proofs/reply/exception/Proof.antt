@@ -46,17 +46,11 @@ module _ (s b : List ℕ) (number : ℕ) where
 speaks : (c : tie.Else1) → silent (now (c .before .before .before .before .args .frame)) (length (now (c .before .before .before .before .args .reply))) ≡ false
 speaks c = sym (c .before .is-silent .ensures) ∙ c .if1 .left
 
-is-silent-requires : tie.Need-is-silent-requires
-is-silent-requires c κs = search needs
-
 returns : tie.Need-returns
 returns c = let a = c .before .before .before .before .args in quiet (now (a .frame)) (now (a .reply)) (a .number) (sym (c .before .is-silent .ensures) ∙ c .if1 .taken)
 
 shared-slice-read-function : tie.Need-shared-slice-read-function
 shared-slice-read-function c = omega (arith, framed-enough _ _ (speaks (c .before)))
-
-exception-code-requires : tie.Need-exception-code-requires
-exception-code-requires c κs = search needs
 
 returns-2 : tie.Need-returns-2
 returns-2 c = let a = c .before .before .before .before .before .before .before .args in uncoded (now (a .frame)) (now (a .reply)) (a .number) (sym (c .before .exception-code .ensures) ∙ c .if2 .taken)
@@ -67,32 +61,14 @@ shared-slice-read-start c = omega (arith, framed-enough _ _ (speaks (c .before .
 cast-start : tie.Need-cast-start
 cast-start c = omega (arith, c .shared-slice-known3 .given 0)
 
-top-set-requires : tie.Need-top-set-requires
-top-set-requires c κs = search needs
-
-cast-start-2 : tie.Need-cast-start-2
-cast-start-2 c = search needs
-
-mul-start : tie.Need-mul-start
-mul-start c = search needs
-
 add-start : tie.Need-add-start
 add-start c = omega (arith, c .before .shared-slice-known3 .given 0)
-
-cast-put : tie.Need-cast-put
-cast-put c = search needs
-
-mul-put : tie.Need-mul-put
-mul-put c = search needs
 
 add-put : tie.Need-add-put
 add-put c = omega (arith, c .before .before .shared-slice-known3 .given 0)
 
 put-requires : tie.Need-put-requires
 put-requires c κs = (omega arith, omega arith, omega (arith, enough _ _ (speaks (c .before .before .before .before .before .before))))
-
-same-length : tie.Need-same-length
-same-length c = search needs
 
 returns-3 : tie.Need-returns-3
 returns-3 c =
@@ -112,20 +88,20 @@ pub exception-spec : {M : Type 1} → statement M
 exception-spec =
     tie.close
     (tie.spec
-    is-silent-requires
+    (λ c κs. search needs)
     returns
     shared-slice-read-function
-    exception-code-requires
+    (λ c κs. search needs)
     returns-2
     shared-slice-read-start
     cast-start
-    top-set-requires
-    cast-start-2
-    mul-start
+    (λ c κs. search needs)
+    (λ c. search needs)
+    (λ c. search needs)
     add-start
-    cast-put
-    mul-put
+    (λ c. search needs)
+    (λ c. search needs)
     add-put
     put-requires
-    same-length
+    (λ c. search needs)
     returns-3)

@@ -13,12 +13,9 @@ returns-2 : tie.Need-returns-2
 unfolding silent
 returns-2 c = simp (le-ltb _ _ (c .before .if1 .left), lt-ltb _ _ (c .if2 .taken))
 
-shared-slice-read-result : tie.Need-shared-slice-read-result
-shared-slice-read-result c = search needs
-
 returns-3 : tie.Need-returns-3
 unfolding silent
 returns-3 c = simp (le-ltb _ _ (c .before .before .if1 .left), le-ltb _ _ (c .before .if2 .left))
 
 pub is-silent-spec : {M : Type 1} → statement M
-is-silent-spec = tie.close (tie.spec returns returns-2 shared-slice-read-result returns-3)
+is-silent-spec = tie.close (tie.spec returns returns-2 (λ c. search needs) returns-3)

@@ -45,26 +45,11 @@ Inv-loop reply₀ word count sum rest₀ i₀ reply rest i =
 abbrev μ-loop : tie.MeasureT-loop
 μ-loop reply₀ word count sum rest₀ i₀ reply rest i = count - i
 
-checksum-of-word-requires : tie.Need-checksum-of-word-requires Inv-loop μ-loop
-checksum-of-word-requires c κs = search needs
-
 loop-holds : tie.Need-loop-holds Inv-loop μ-loop
 loop-holds c =
     let a = c .before .before .args in
     let all : a .count - 0 ≡ a .count = omega arith in
     (omega arith, refl, ap (λ (k : ℕ). sets (now (a .reply)) 0 (wordBytes k (a .word) ++ closing (c .checksum-of-word .result))) all)
-
-cast-reply : tie.Need-cast-reply Inv-loop μ-loop
-cast-reply c = search needs
-
-slice-write-reply : tie.Need-slice-write-reply Inv-loop μ-loop
-slice-write-reply c = search needs
-
-add-i : tie.Need-add-i Inv-loop μ-loop
-add-i c = search needs
-
-loop-less : tie.Need-loop-less Inv-loop μ-loop
-loop-less c = search needs
 
 loop-again : tie.Need-loop-again Inv-loop μ-loop
 loop-again c =
@@ -76,23 +61,8 @@ loop-again c =
       one-more (l .reply) (l .rest) (l .i) (n - (l .i + 1)) (n - l .i) (closing sum) (omega arith) ∙ l .inv .2,
     )
 
-cast-reply-2 : tie.Need-cast-reply-2 Inv-loop μ-loop
-cast-reply-2 c = search needs
-
-slice-write-reply-2 : tie.Need-slice-write-reply-2 Inv-loop μ-loop
-slice-write-reply-2 c = search needs
-
-cast-reply-3 : tie.Need-cast-reply-3 Inv-loop μ-loop
-cast-reply-3 c = search needs
-
-add-reply : tie.Need-add-reply Inv-loop μ-loop
-add-reply c = search needs
-
 slice-write-reply-3 : tie.Need-slice-write-reply-3 Inv-loop μ-loop
 slice-write-reply-3 c = simp length-set (omega arith)
-
-add-result : tie.Need-add-result Inv-loop μ-loop
-add-result c = search needs
 
 same-length : tie.Need-same-length Inv-loop μ-loop
 same-length c = simp length-set (c .before .loop .inv .1)
@@ -110,18 +80,18 @@ put-spec =
     (tie.spec
     Inv-loop
     μ-loop
-    checksum-of-word-requires
+    (λ c κs. search needs)
     loop-holds
-    cast-reply
-    slice-write-reply
-    add-i
-    loop-less
+    (λ c. search needs)
+    (λ c. search needs)
+    (λ c. search needs)
+    (λ c. search needs)
     loop-again
-    cast-reply-2
-    slice-write-reply-2
-    cast-reply-3
-    add-reply
+    (λ c. search needs)
+    (λ c. search needs)
+    (λ c. search needs)
+    (λ c. search needs)
     slice-write-reply-3
-    add-result
+    (λ c. search needs)
     same-length
     returns)

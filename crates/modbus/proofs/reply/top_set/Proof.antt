@@ -3,8 +3,5 @@ use mathlib.Core.Path.{refl}
 use Rattle.modbus.proofs.reply.top_set.Statement.{statement}
 use Rattle.modbus.proofs.reply.top_set.Tie as tie
 
-returns : tie.Need-returns
-returns c = refl
-
 pub top-set-spec : {M : Type 1} → statement M
-top-set-spec = tie.close (tie.spec returns)
+top-set-spec = tie.close (tie.spec (λ c. refl))

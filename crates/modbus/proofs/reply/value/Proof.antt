@@ -25,17 +25,8 @@ sent-bytes x h = (omega arith, (omega arith, (omega (arith, toBits-lt binary32 x
 speaks : (c : tie.Else1) → silent (now (c .before .before .before .before .args .frame)) (length (now (c .before .before .before .before .args .reply))) ≡ false
 speaks c = sym (c .before .is-silent .ensures) ∙ c .if1 .left
 
-is-silent-requires : tie.Need-is-silent-requires
-is-silent-requires c κs = search needs
-
 returns : tie.Need-returns
 returns c = let a = c .before .before .before .before .args in unreplied (now (a .frame)) (now (a .reply)) (stationOf (now (a .frame)) ∷ 3 ∷ 4 ∷ sent (a .x)) (sym (c .before .is-silent .ensures) ∙ c .if1 .taken)
-
-bytes-of-float-requires : tie.Need-bytes-of-float-requires
-bytes-of-float-requires c κs = search needs
-
-cast-float : tie.Need-cast-float
-cast-float c = search needs
 
 shared-slice-read-put : tie.Need-shared-slice-read-put
 shared-slice-read-put c = omega (arith, framed-enough _ _ (speaks (c .before .before .before)))
@@ -46,17 +37,11 @@ cast-put c = omega (arith, c .shared-slice-known2 .given 0)
 add-put : tie.Need-add-put
 add-put c = omega (arith, c .shared-slice-known2 .given 0)
 
-mul-put : tie.Need-mul-put
-mul-put c = search needs
-
 add-put-2 : tie.Need-add-put-2
 add-put-2 c = omega (arith, c .shared-slice-known2 .given 0)
 
 put-requires : tie.Need-put-requires
 put-requires c κs = (omega arith, omega arith, omega (arith, enough _ _ (speaks (c .before .before .before))))
-
-same-length : tie.Need-same-length
-same-length c = search needs
 
 returns-2 : tie.Need-returns-2
 unfolding wireBytes
@@ -75,15 +60,15 @@ pub value-spec : {M : Type 1} → statement M
 value-spec =
     tie.close
     (tie.spec
-    is-silent-requires
+    (λ c κs. search needs)
     returns
-    bytes-of-float-requires
-    cast-float
+    (λ c κs. search needs)
+    (λ c. search needs)
     shared-slice-read-put
     cast-put
     add-put
-    mul-put
+    (λ c. search needs)
     add-put-2
     put-requires
-    same-length
+    (λ c. search needs)
     returns-2)

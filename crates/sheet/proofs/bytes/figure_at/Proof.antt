@@ -19,21 +19,12 @@ returns c =
     let h : length (a .s .now) < a .at + 8 = omega arith in
     simp (lt-leb _ _ h)
 
-sub-if2 : tie.Need-sub-if2
-sub-if2 c = search needs
-
 returns-2 : tie.Need-returns-2
 unfolding figureAt
 returns-2 c =
     let a = c .before .before .before .args in
     let h : length (a .s .now) < a .at + 8 = omega arith in
     simp (lt-leb _ _ h)
-
-word-at-requires : tie.Need-word-at-requires
-word-at-requires c κs = search needs
-
-signed-requires : tie.Need-signed-requires
-signed-requires c κs = search needs
 
 returns-3 : tie.Need-returns-3
 unfolding figureAt
@@ -45,4 +36,4 @@ returns-3 c =
 
 pub figure-at-spec : {M : Type 1} → statement M
 figure-at-spec =
-    tie.close (tie.spec returns sub-if2 returns-2 word-at-requires signed-requires returns-3)
+    tie.close (tie.spec returns (λ c. search needs) returns-2 (λ c κs. search needs) (λ c κs. search needs) returns-3)

@@ -9,15 +9,9 @@ returns : tie.Need-returns
 unfolding countStep
 returns c = simp (le-ltb _ _ (c .if1 .taken))
 
-shared-slice-read-t6 : tie.Need-shared-slice-read-t6
-shared-slice-read-t6 c = search needs
-
-add-t3 : tie.Need-add-t3
-add-t3 c = search needs
-
 returns-2 : tie.Need-returns-2
 unfolding countStep
 returns-2 c = simp (lt-ltb _ _ (c .before .if1 .left))
 
 pub next-count-spec : {M : Type 1} → statement M
-next-count-spec = tie.close (tie.spec returns shared-slice-read-t6 add-t3 returns-2)
+next-count-spec = tie.close (tie.spec returns (λ c. search needs) (λ c. search needs) returns-2)

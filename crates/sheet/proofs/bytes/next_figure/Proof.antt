@@ -18,21 +18,12 @@ returns c =
     let h : length (a .s .now) < a .at + 8 = omega arith in
     simp (lt-ltb _ _ h)
 
-sub-if2 : tie.Need-sub-if2
-sub-if2 c = search needs
-
 returns-2 : tie.Need-returns-2
 unfolding figureStep
 returns-2 c =
     let a = c .before .before .before .args in
     let h : length (a .s .now) < a .at + 8 = omega arith in
     simp (lt-ltb _ _ h)
-
-figure-at-requires : tie.Need-figure-at-requires
-figure-at-requires c κs = search needs
-
-add-t4 : tie.Need-add-t4
-add-t4 c = search needs
 
 returns-3 : tie.Need-returns-3
 unfolding figureStep
@@ -44,4 +35,4 @@ returns-3 c =
 
 pub next-figure-spec : {M : Type 1} → statement M
 next-figure-spec =
-    tie.close (tie.spec returns sub-if2 returns-2 figure-at-requires add-t4 returns-3)
+    tie.close (tie.spec returns (λ c. search needs) returns-2 (λ c κs. search needs) (λ c. search needs) returns-3)

@@ -20,15 +20,6 @@ minus-one (suc n) = ap (λ (k : ℕ). negsuc (suc k)) (zero-add n)
 complement : (x : ℕ) → x < 2 ^ 63 → negsuc 0 -ℤ toZ w64 x ≡ negsuc x
 complement x h = rw (toZ-pos w64 h) (minus-one x)
 
-cast-result : tie.Need-cast-result
-cast-result c = search needs
-
-sub-result : tie.Need-sub-result
-sub-result c = search needs
-
-cast-result-2 : tie.Need-cast-result-2
-cast-result-2 c = search needs
-
 sub-result-2 : tie.Need-sub-result-2
 sub-result-2 c = rw (complement (18446744073709551615 - c .before .args .word) (omega arith)) (record { sfits = omega arith })
 
@@ -44,4 +35,4 @@ returns-2 c =
 
 pub signed-spec : {M : Type 1} → statement M
 signed-spec =
-    tie.close (tie.spec cast-result sub-result cast-result-2 sub-result-2 returns returns-2)
+    tie.close (tie.spec (λ c. search needs) (λ c. search needs) (λ c. search needs) sub-result-2 returns returns-2)

@@ -12,15 +12,6 @@ use borrow.Author.Needs.{needs}
 use Rattle.sheet.proofs.judgement.change.Statement.{statement}
 use Rattle.sheet.proofs.judgement.change.Tie as tie
 
-unsigned-requires : tie.Need-unsigned-requires
-unsigned-requires c κs = search needs
-
-unsigned-requires-2 : tie.Need-unsigned-requires-2
-unsigned-requires-2 c κs = search needs
-
-wrapping-sub-u64-requires : tie.Need-wrapping-sub-u64-requires
-wrapping-sub-u64-requires c κs = search needs
-
 returns : tie.Need-returns
 returns c =
     let s = c .before .before .before .before in
@@ -28,9 +19,6 @@ returns c =
     let x : c .before .before .before .unsigned .result ≡ unsignedOf (s .args .a) = c .before .before .before .unsigned .ensures ∙ ap unsignedOf (toZ-ofZ (s .fits .a)) in
     let y : c .before .before .unsigned2 .result ≡ unsignedOf (s .args .b) = c .before .before .unsigned2 .ensures ∙ ap unsignedOf (toZ-ofZ (s .fits .b)) in
     apart (s .args .a) (s .args .b) (c .wrapping-sub-u64 .result) (s .fits .a) (s .fits .b) (<-≤ (lt-yes h)) (c .wrapping-sub-u64 .ok) (rw (← x, ← y) (c .wrapping-sub-u64 .ensures))
-
-wrapping-sub-u64-requires-2 : tie.Need-wrapping-sub-u64-requires-2
-wrapping-sub-u64-requires-2 c κs = search needs
 
 returns-2 : tie.Need-returns-2
 returns-2 c =
@@ -44,9 +32,9 @@ pub change-spec : {M : Type 1} → statement M
 change-spec =
     tie.close
     (tie.spec
-    unsigned-requires
-    unsigned-requires-2
-    wrapping-sub-u64-requires
+    (λ c κs. search needs)
+    (λ c κs. search needs)
+    (λ c κs. search needs)
     returns
-    wrapping-sub-u64-requires-2
+    (λ c κs. search needs)
     returns-2)

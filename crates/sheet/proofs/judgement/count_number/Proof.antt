@@ -5,9 +5,6 @@ use borrow.Author.Needs.{needs}
 use Rattle.sheet.proofs.judgement.count_number.Statement.{statement}
 use Rattle.sheet.proofs.judgement.count_number.Tie as tie
 
-add-if1 : tie.Need-add-if1
-add-if1 c = search needs
-
 returns : tie.Need-returns
 unfolding shortOf
 returns c = simp (lt-ltb _ _ (c .if1 .taken))
@@ -25,4 +22,4 @@ unfolding shortOf wrongCount
 returns-4 c = simp (le-ltb _ _ (c .before .before .if1 .left), le-ltb _ _ (c .before .if2 .left), le-ltb _ _ (c .if3 .left))
 
 pub count-number-spec : {M : Type 1} → statement M
-count-number-spec = tie.close (tie.spec add-if1 returns returns-2 returns-3 returns-4)
+count-number-spec = tie.close (tie.spec (λ c. search needs) returns returns-2 returns-3 returns-4)

@@ -18,9 +18,6 @@ sub-range-number c =
     let m : c .args .most within (2 ^ 62) = record { abs = c .pre .1 } in
     fits (search i64s depth 9) tt
 
-range-number-requires : tie.Need-range-number-requires
-range-number-requires c κs = search needs
-
 returns : tie.Need-returns
 returns c =
     let s = c .before in
@@ -29,4 +26,4 @@ returns c =
     rw (e, toZ-ofZ (s .fits .most), toZ-ofZ (s .fits .v)) at (c .range-number .ensures)
 
 pub figure-number-spec : {M : Type 1} → statement M
-figure-number-spec = tie.close (tie.spec sub-range-number range-number-requires returns)
+figure-number-spec = tie.close (tie.spec sub-range-number (λ c κs. search needs) returns)

@@ -7,27 +7,6 @@ use borrow.Author.Needs.{needs}
 use Rattle.sheet.proofs.judgement.filter_number.Statement.{statement}
 use Rattle.sheet.proofs.judgement.filter_number.Tie as tie
 
-count-number-requires : tie.Need-count-number-requires
-count-number-requires c κs = search needs
-
-add-range-number : tie.Need-add-range-number
-add-range-number c = search needs
-
-range-number-requires : tie.Need-range-number-requires
-range-number-requires c κs = search needs
-
-add-range-number-2 : tie.Need-add-range-number-2
-add-range-number-2 c = search needs
-
-range-number-requires-2 : tie.Need-range-number-requires-2
-range-number-requires-2 c κs = search needs
-
-first-requires : tie.Need-first-requires
-first-requires c κs = search needs
-
-first-requires-2 : tie.Need-first-requires-2
-first-requires-2 c κs = search needs
-
 returns : tie.Need-returns
 unfolding filterNumber
 returns c =
@@ -40,11 +19,11 @@ pub filter-number-spec : {M : Type 1} → statement M
 filter-number-spec =
     tie.close
     (tie.spec
-    count-number-requires
-    add-range-number
-    range-number-requires
-    add-range-number-2
-    range-number-requires-2
-    first-requires
-    first-requires-2
+    (λ c κs. search needs)
+    (λ c. search needs)
+    (λ c κs. search needs)
+    (λ c. search needs)
+    (λ c κs. search needs)
+    (λ c κs. search needs)
+    (λ c κs. search needs)
     returns)

@@ -8,8 +8,5 @@ use Rattle.sheet.proofs.judgement.first.Tie as tie
 returns : tie.Need-returns
 returns c = sym (then-stop _ _ (c .if1 .taken))
 
-returns-2 : tie.Need-returns-2
-returns-2 c = search needs
-
 pub first-spec : {M : Type 1} → statement M
-first-spec = tie.close (tie.spec returns returns-2)
+first-spec = tie.close (tie.spec returns (λ c. search needs))

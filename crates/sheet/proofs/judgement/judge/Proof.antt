@@ -7,12 +7,6 @@ use borrow.Author.Needs.{needs}
 use Rattle.sheet.proofs.judgement.judge.Statement.{statement}
 use Rattle.sheet.proofs.judgement.judge.Tie as tie
 
-sheet-length-requires : tie.Need-sheet-length-requires
-sheet-length-requires c κs = search needs
-
-sections-number-requires : tie.Need-sections-number-requires
-sections-number-requires c κs = search needs
-
 returns : tie.Need-returns
 unfolding figuresNumber
 returns c =
@@ -20,4 +14,4 @@ returns c =
     (rw (c .before .sheet-length .ensures .0) at (c .sections-number .ensures)) ∙ sections-whole (shortOf (sheetLength f)) 4 5 2 f (λ e h. in-short h)
 
 pub judge-spec : {M : Type 1} → statement M
-judge-spec = tie.close (tie.spec sheet-length-requires sections-number-requires returns)
+judge-spec = tie.close (tie.spec (λ c κs. search needs) (λ c κs. search needs) returns)

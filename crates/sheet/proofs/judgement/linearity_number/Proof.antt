@@ -9,18 +9,9 @@ use borrow.Author.Needs.{needs}
 use Rattle.sheet.proofs.judgement.linearity_number.Statement.{statement}
 use Rattle.sheet.proofs.judgement.linearity_number.Tie as tie
 
-count-number-requires : tie.Need-count-number-requires
-count-number-requires c κs = search needs
-
 returns : tie.Need-returns
 unfolding linearityNumber
 returns c = stop _ (c .before .count-number .ensures) (c .if1 .taken)
-
-add-linearity-points-number : tie.Need-add-linearity-points-number
-add-linearity-points-number c = search needs
-
-cast-linearity-points-number : tie.Need-cast-linearity-points-number
-cast-linearity-points-number c = search needs
 
 linearity-points-number-requires : tie.Need-linearity-points-number-requires
 linearity-points-number-requires c κs =
@@ -36,9 +27,9 @@ pub linearity-number-spec : {M : Type 1} → statement M
 linearity-number-spec =
     tie.close
     (tie.spec
-    count-number-requires
+    (λ c κs. search needs)
     returns
-    add-linearity-points-number
-    cast-linearity-points-number
+    (λ c. search needs)
+    (λ c. search needs)
     linearity-points-number-requires
     returns-2)

@@ -9,36 +9,6 @@ use borrow.Author.Needs.{needs}
 use Rattle.sheet.proofs.judgement.linearity_point_number.Statement.{statement}
 use Rattle.sheet.proofs.judgement.linearity_point_number.Tie as tie
 
-mul-point : tie.Need-mul-point
-mul-point c = search needs
-
-array-copy-out-point : tie.Need-array-copy-out-point
-array-copy-out-point c = search needs
-
-figure-number-requires : tie.Need-figure-number-requires
-figure-number-requires c κs = search needs
-
-linearity-rise-requires : tie.Need-linearity-rise-requires
-linearity-rise-requires c κs = search needs
-
-add-figure-number : tie.Need-add-figure-number
-add-figure-number c = search needs
-
-figure-number-requires-2 : tie.Need-figure-number-requires-2
-figure-number-requires-2 c κs = search needs
-
-linearity-steep-requires : tie.Need-linearity-steep-requires
-linearity-steep-requires c κs = search needs
-
-first-requires : tie.Need-first-requires
-first-requires c κs = search needs
-
-first-requires-2 : tie.Need-first-requires-2
-first-requires-2 c κs = search needs
-
-first-requires-3 : tie.Need-first-requires-3
-first-requires-3 c κs = search needs
-
 returns : tie.Need-returns
 unfolding linearityPointNumber
 returns c =
@@ -51,14 +21,14 @@ pub linearity-point-number-spec : {M : Type 1} → statement M
 linearity-point-number-spec =
     tie.close
     (tie.spec
-    mul-point
-    array-copy-out-point
-    figure-number-requires
-    linearity-rise-requires
-    add-figure-number
-    figure-number-requires-2
-    linearity-steep-requires
-    first-requires
-    first-requires-2
-    first-requires-3
+    (λ c. search needs)
+    (λ c. search needs)
+    (λ c κs. search needs)
+    (λ c κs. search needs)
+    (λ c. search needs)
+    (λ c κs. search needs)
+    (λ c κs. search needs)
+    (λ c κs. search needs)
+    (λ c κs. search needs)
+    (λ c κs. search needs)
     returns)

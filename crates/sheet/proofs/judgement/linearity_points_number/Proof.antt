@@ -16,23 +16,8 @@ abbrev μ-loop : tie.MeasureT-loop
 loop-holds : tie.Need-loop-holds Inv-loop μ-loop
 loop-holds c = (refl, omega arith)
 
-mul-linearity-point-number : tie.Need-mul-linearity-point-number Inv-loop μ-loop
-mul-linearity-point-number c = omega arith
-
-add-linearity-point-number : tie.Need-add-linearity-point-number Inv-loop μ-loop
-add-linearity-point-number c = omega arith
-
 linearity-point-number-requires : tie.Need-linearity-point-number-requires Inv-loop μ-loop
 linearity-point-number-requires c κs = (omega arith, omega arith)
-
-first-requires : tie.Need-first-requires Inv-loop μ-loop
-first-requires c κs = tt
-
-add-i : tie.Need-add-i Inv-loop μ-loop
-add-i c = omega arith
-
-loop-less : tie.Need-loop-less Inv-loop μ-loop
-loop-less c = omega arith
 
 loop-again : tie.Need-loop-again Inv-loop μ-loop
 loop-again c =
@@ -51,11 +36,11 @@ linearity-points-number-spec =
     Inv-loop
     μ-loop
     loop-holds
-    mul-linearity-point-number
-    add-linearity-point-number
+    (λ c. omega arith)
+    (λ c. omega arith)
     linearity-point-number-requires
-    first-requires
-    add-i
-    loop-less
+    (λ c κs. tt)
+    (λ c. omega arith)
+    (λ c. omega arith)
     loop-again
     returns)

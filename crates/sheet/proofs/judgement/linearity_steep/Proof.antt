@@ -6,27 +6,6 @@ use borrow.Author.Needs.{needs}
 use Rattle.sheet.proofs.judgement.linearity_steep.Statement.{statement}
 use Rattle.sheet.proofs.judgement.linearity_steep.Tie as tie
 
-returns : tie.Need-returns
-returns c = search needs
-
-sub-p : tie.Need-sub-p
-sub-p c = search needs
-
-mul-p : tie.Need-mul-p
-mul-p c = search needs
-
-array-copy-out-p : tie.Need-array-copy-out-p
-array-copy-out-p c = search needs
-
-mul-q : tie.Need-mul-q
-mul-q c = search needs
-
-array-copy-out-q : tie.Need-array-copy-out-q
-array-copy-out-q c = search needs
-
-too-steep-requires : tie.Need-too-steep-requires
-too-steep-requires c κs = search needs
-
 returns-2 : tie.Need-returns-2
 returns-2 c =
     let s = c .before .before .before .before in
@@ -36,11 +15,11 @@ pub linearity-steep-spec : {M : Type 1} → statement M
 linearity-steep-spec =
     tie.close
     (tie.spec
-    returns
-    sub-p
-    mul-p
-    array-copy-out-p
-    mul-q
-    array-copy-out-q
-    too-steep-requires
+    (λ c. search needs)
+    (λ c. search needs)
+    (λ c. search needs)
+    (λ c. search needs)
+    (λ c. search needs)
+    (λ c. search needs)
+    (λ c κs. search needs)
     returns-2)

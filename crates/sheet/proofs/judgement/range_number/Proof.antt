@@ -10,9 +10,6 @@ use borrow.Author.Needs.{needs}
 use Rattle.sheet.proofs.judgement.range_number.Statement.{statement}
 use Rattle.sheet.proofs.judgement.range_number.Tie as tie
 
-add-if1 : tie.Need-add-if1
-add-if1 c = search needs
-
 returns : tie.Need-returns
 unfolding shortOf
 returns c = simp (lt-ltb _ _ (c .if1 .taken))
@@ -41,4 +38,4 @@ returns-4 c =
     simp (le-ltb _ _ (c .before .before .if1 .left), d, e)
 
 pub range-number-spec : {M : Type 1} → statement M
-range-number-spec = tie.close (tie.spec add-if1 returns returns-2 returns-3 returns-4)
+range-number-spec = tie.close (tie.spec (λ c. search needs) returns returns-2 returns-3 returns-4)

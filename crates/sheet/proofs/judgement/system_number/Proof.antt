@@ -7,60 +7,6 @@ use borrow.Author.Needs.{needs}
 use Rattle.sheet.proofs.judgement.system_number.Statement.{statement}
 use Rattle.sheet.proofs.judgement.system_number.Tie as tie
 
-count-number-requires : tie.Need-count-number-requires
-count-number-requires c κs = search needs
-
-add-figure-number : tie.Need-add-figure-number
-add-figure-number c = search needs
-
-figure-number-requires : tie.Need-figure-number-requires
-figure-number-requires c κs = search needs
-
-add-figure-number-2 : tie.Need-add-figure-number-2
-add-figure-number-2 c = search needs
-
-figure-number-requires-2 : tie.Need-figure-number-requires-2
-figure-number-requires-2 c κs = search needs
-
-add-figure-number-3 : tie.Need-add-figure-number-3
-add-figure-number-3 c = search needs
-
-figure-number-requires-3 : tie.Need-figure-number-requires-3
-figure-number-requires-3 c κs = search needs
-
-add-figure-number-4 : tie.Need-add-figure-number-4
-add-figure-number-4 c = search needs
-
-figure-number-requires-4 : tie.Need-figure-number-requires-4
-figure-number-requires-4 c κs = search needs
-
-not-below-requires : tie.Need-not-below-requires
-not-below-requires c κs = search needs
-
-add-figure-number-5 : tie.Need-add-figure-number-5
-add-figure-number-5 c = search needs
-
-figure-number-requires-5 : tie.Need-figure-number-requires-5
-figure-number-requires-5 c κs = search needs
-
-first-requires : tie.Need-first-requires
-first-requires c κs = search needs
-
-first-requires-2 : tie.Need-first-requires-2
-first-requires-2 c κs = search needs
-
-first-requires-3 : tie.Need-first-requires-3
-first-requires-3 c κs = search needs
-
-first-requires-4 : tie.Need-first-requires-4
-first-requires-4 c κs = search needs
-
-first-requires-5 : tie.Need-first-requires-5
-first-requires-5 c κs = search needs
-
-first-requires-6 : tie.Need-first-requires-6
-first-requires-6 c κs = search needs
-
 returns : tie.Need-returns
 unfolding systemNumber
 returns c =
@@ -76,22 +22,22 @@ pub system-number-spec : {M : Type 1} → statement M
 system-number-spec =
     tie.close
     (tie.spec
-    count-number-requires
-    add-figure-number
-    figure-number-requires
-    add-figure-number-2
-    figure-number-requires-2
-    add-figure-number-3
-    figure-number-requires-3
-    add-figure-number-4
-    figure-number-requires-4
-    not-below-requires
-    add-figure-number-5
-    figure-number-requires-5
-    first-requires
-    first-requires-2
-    first-requires-3
-    first-requires-4
-    first-requires-5
-    first-requires-6
+    (λ c κs. search needs)
+    (λ c. search needs)
+    (λ c κs. search needs)
+    (λ c. search needs)
+    (λ c κs. search needs)
+    (λ c. search needs)
+    (λ c κs. search needs)
+    (λ c. search needs)
+    (λ c κs. search needs)
+    (λ c κs. search needs)
+    (λ c. search needs)
+    (λ c κs. search needs)
+    (λ c κs. search needs)
+    (λ c κs. search needs)
+    (λ c κs. search needs)
+    (λ c κs. search needs)
+    (λ c κs. search needs)
+    (λ c κs. search needs)
     returns)

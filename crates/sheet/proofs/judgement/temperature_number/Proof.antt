@@ -9,18 +9,9 @@ use borrow.Author.Needs.{needs}
 use Rattle.sheet.proofs.judgement.temperature_number.Statement.{statement}
 use Rattle.sheet.proofs.judgement.temperature_number.Tie as tie
 
-count-number-requires : tie.Need-count-number-requires
-count-number-requires c κs = search needs
-
 returns : tie.Need-returns
 unfolding temperatureNumber
 returns c = stop _ (c .before .count-number .ensures) (c .if1 .taken)
-
-add-temperature-points-number : tie.Need-add-temperature-points-number
-add-temperature-points-number c = search needs
-
-cast-temperature-points-number : tie.Need-cast-temperature-points-number
-cast-temperature-points-number c = search needs
 
 temperature-points-number-requires : tie.Need-temperature-points-number-requires
 temperature-points-number-requires c κs =
@@ -36,9 +27,9 @@ pub temperature-number-spec : {M : Type 1} → statement M
 temperature-number-spec =
     tie.close
     (tie.spec
-    count-number-requires
+    (λ c κs. search needs)
     returns
-    add-temperature-points-number
-    cast-temperature-points-number
+    (λ c. search needs)
+    (λ c. search needs)
     temperature-points-number-requires
     returns-2)

@@ -9,39 +9,6 @@ use borrow.Author.Needs.{needs}
 use Rattle.sheet.proofs.judgement.temperature_point_number.Statement.{statement}
 use Rattle.sheet.proofs.judgement.temperature_point_number.Tie as tie
 
-mul-point : tie.Need-mul-point
-mul-point c = search needs
-
-array-copy-out-point : tie.Need-array-copy-out-point
-array-copy-out-point c = search needs
-
-figure-number-requires : tie.Need-figure-number-requires
-figure-number-requires c κs = search needs
-
-temperature-rise-requires : tie.Need-temperature-rise-requires
-temperature-rise-requires c κs = search needs
-
-add-figure-number : tie.Need-add-figure-number
-add-figure-number c = search needs
-
-figure-number-requires-2 : tie.Need-figure-number-requires-2
-figure-number-requires-2 c κs = search needs
-
-add-figure-number-2 : tie.Need-add-figure-number-2
-add-figure-number-2 c = search needs
-
-figure-number-requires-3 : tie.Need-figure-number-requires-3
-figure-number-requires-3 c κs = search needs
-
-first-requires : tie.Need-first-requires
-first-requires c κs = search needs
-
-first-requires-2 : tie.Need-first-requires-2
-first-requires-2 c κs = search needs
-
-first-requires-3 : tie.Need-first-requires-3
-first-requires-3 c κs = search needs
-
 returns : tie.Need-returns
 unfolding temperaturePointNumber
 returns c =
@@ -55,15 +22,15 @@ pub temperature-point-number-spec : {M : Type 1} → statement M
 temperature-point-number-spec =
     tie.close
     (tie.spec
-    mul-point
-    array-copy-out-point
-    figure-number-requires
-    temperature-rise-requires
-    add-figure-number
-    figure-number-requires-2
-    add-figure-number-2
-    figure-number-requires-3
-    first-requires
-    first-requires-2
-    first-requires-3
+    (λ c. search needs)
+    (λ c. search needs)
+    (λ c κs. search needs)
+    (λ c κs. search needs)
+    (λ c. search needs)
+    (λ c κs. search needs)
+    (λ c. search needs)
+    (λ c κs. search needs)
+    (λ c κs. search needs)
+    (λ c κs. search needs)
+    (λ c κs. search needs)
     returns)

@@ -16,23 +16,8 @@ abbrev μ-loop : tie.MeasureT-loop
 loop-holds : tie.Need-loop-holds Inv-loop μ-loop
 loop-holds c = (refl, omega arith)
 
-mul-temperature-point-number : tie.Need-mul-temperature-point-number Inv-loop μ-loop
-mul-temperature-point-number c = omega arith
-
-add-temperature-point-number : tie.Need-add-temperature-point-number Inv-loop μ-loop
-add-temperature-point-number c = omega arith
-
 temperature-point-number-requires : tie.Need-temperature-point-number-requires Inv-loop μ-loop
 temperature-point-number-requires c κs = (omega arith, omega arith)
-
-first-requires : tie.Need-first-requires Inv-loop μ-loop
-first-requires c κs = tt
-
-add-i : tie.Need-add-i Inv-loop μ-loop
-add-i c = omega arith
-
-loop-less : tie.Need-loop-less Inv-loop μ-loop
-loop-less c = omega arith
 
 loop-again : tie.Need-loop-again Inv-loop μ-loop
 loop-again c =
@@ -51,11 +36,11 @@ temperature-points-number-spec =
     Inv-loop
     μ-loop
     loop-holds
-    mul-temperature-point-number
-    add-temperature-point-number
+    (λ c. omega arith)
+    (λ c. omega arith)
     temperature-point-number-requires
-    first-requires
-    add-i
-    loop-less
+    (λ c κs. tt)
+    (λ c. omega arith)
+    (λ c. omega arith)
     loop-again
     returns)

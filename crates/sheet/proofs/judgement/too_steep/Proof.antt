@@ -11,12 +11,6 @@ use borrow.Author.Needs.{needs}
 use Rattle.sheet.proofs.judgement.too_steep.Statement.{statement}
 use Rattle.sheet.proofs.judgement.too_steep.Tie as tie
 
-change-requires : tie.Need-change-requires
-change-requires c κs = search needs
-
-change-requires-2 : tie.Need-change-requires-2
-change-requires-2 c κs = search needs
-
 returns : tie.Need-returns
 unfolding tooSteep
 returns c =
@@ -44,4 +38,4 @@ returns-2 c =
     simp (le-ltb _ _ l)
 
 pub too-steep-spec : {M : Type 1} → statement M
-too-steep-spec = tie.close (tie.spec change-requires change-requires-2 returns returns-2)
+too-steep-spec = tie.close (tie.spec (λ c κs. search needs) (λ c κs. search needs) returns returns-2)

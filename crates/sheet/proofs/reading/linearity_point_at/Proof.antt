@@ -5,19 +5,10 @@ use borrow.Author.Needs.{needs}
 use Rattle.sheet.proofs.reading.linearity_point_at.Statement.{statement}
 use Rattle.sheet.proofs.reading.linearity_point_at.Tie as tie
 
-figure-at-requires : tie.Need-figure-at-requires
-figure-at-requires c κs = search needs
-
-add-figure-at : tie.Need-add-figure-at
-add-figure-at c = search needs
-
-figure-at-requires-2 : tie.Need-figure-at-requires-2
-figure-at-requires-2 c κs = search needs
-
 returns : tie.Need-returns
 unfolding linearityPointAt
 returns c = rw (held (c .before .figure-at .ok) (c .before .figure-at .ensures), held (c .figure-at2 .ok) (c .figure-at2 .ensures))
 
 pub linearity-point-at-spec : {M : Type 1} → statement M
 linearity-point-at-spec =
-    tie.close (tie.spec figure-at-requires add-figure-at figure-at-requires-2 returns)
+    tie.close (tie.spec (λ c κs. search needs) (λ c. search needs) (λ c κs. search needs) returns)

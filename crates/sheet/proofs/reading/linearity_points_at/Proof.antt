@@ -17,27 +17,6 @@ abbrev μ-loop : tie.MeasureT-loop
 loop-holds : tie.Need-loop-holds Inv-loop μ-loop
 loop-holds c = (refl, omega arith)
 
-mul-linearity-point-at : tie.Need-mul-linearity-point-at Inv-loop μ-loop
-mul-linearity-point-at c = omega arith
-
-add-linearity-point-at : tie.Need-add-linearity-point-at Inv-loop μ-loop
-add-linearity-point-at c = omega arith
-
-linearity-point-at-requires : tie.Need-linearity-point-at-requires Inv-loop μ-loop
-linearity-point-at-requires c κs = omega arith
-
-mul-points : tie.Need-mul-points Inv-loop μ-loop
-mul-points c = omega arith
-
-array-set-from-points : tie.Need-array-set-from-points Inv-loop μ-loop
-array-set-from-points c = omega arith
-
-add-i : tie.Need-add-i Inv-loop μ-loop
-add-i c = omega arith
-
-loop-less : tie.Need-loop-less Inv-loop μ-loop
-loop-less c = omega arith
-
 loop-again : tie.Need-loop-again Inv-loop μ-loop
 loop-again c =
     let l = c .before .before .loop in
@@ -56,12 +35,12 @@ linearity-points-at-spec =
     Inv-loop
     μ-loop
     loop-holds
-    mul-linearity-point-at
-    add-linearity-point-at
-    linearity-point-at-requires
-    mul-points
-    array-set-from-points
-    add-i
-    loop-less
+    (λ c. omega arith)
+    (λ c. omega arith)
+    (λ c κs. omega arith)
+    (λ c. omega arith)
+    (λ c. omega arith)
+    (λ c. omega arith)
+    (λ c. omega arith)
     loop-again
     returns)

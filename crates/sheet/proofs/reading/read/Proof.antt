@@ -6,15 +6,6 @@ use borrow.Author.Needs.{needs}
 use Rattle.sheet.proofs.reading.read.Statement.{statement}
 use Rattle.sheet.proofs.reading.read.Tie as tie
 
-figures-of-requires : tie.Need-figures-of-requires
-figures-of-requires c κs = search needs
-
-sheet-number-requires : tie.Need-sheet-number-requires
-sheet-number-requires c κs = search needs
-
-no-figures-requires : tie.Need-no-figures-requires
-no-figures-requires c κs = search needs
-
 returns : tie.Need-returns
 unfolding readSheet
 returns c =
@@ -28,4 +19,4 @@ returns-2 c = rw (c .before .before .figures-of .ensures, sym (c .before .sheet-
 pub read-spec : {M : Type 1} → statement M
 read-spec =
     tie.close
-    (tie.spec figures-of-requires sheet-number-requires no-figures-requires returns returns-2)
+    (tie.spec (λ c κs. search needs) (λ c κs. search needs) (λ c κs. search needs) returns returns-2)

@@ -19,30 +19,9 @@ sections c =
     let d = rw p at (c .before .count-at3 .ensures) in
     rw (a, b, d, c .before .before .before .before .before .before .pre) at (c .sections-number .ensures)
 
-system-place-requires : tie.Need-system-place-requires
-system-place-requires c κs = search needs
-
-count-at-requires : tie.Need-count-at-requires
-count-at-requires c κs = search needs
-
-count-at-requires-2 : tie.Need-count-at-requires-2
-count-at-requires-2 c κs = search needs
-
-add-count-at : tie.Need-add-count-at
-add-count-at c = search needs
-
-count-at-requires-3 : tie.Need-count-at-requires-3
-count-at-requires-3 c κs = search needs
-
-sections-number-requires : tie.Need-sections-number-requires
-sections-number-requires c κs = search needs
-
 returns : tie.Need-returns
 unfolding sheetNumber
 returns c = stop _ (sections (c .before)) (c .if1 .taken)
-
-add-if2 : tie.Need-add-if2
-add-if2 c = search needs
 
 returns-2 : tie.Need-returns-2
 unfolding sheetNumber trailing
@@ -60,13 +39,13 @@ pub sheet-number-spec : {M : Type 1} → statement M
 sheet-number-spec =
     tie.close
     (tie.spec
-    system-place-requires
-    count-at-requires
-    count-at-requires-2
-    add-count-at
-    count-at-requires-3
-    sections-number-requires
+    (λ c κs. search needs)
+    (λ c κs. search needs)
+    (λ c κs. search needs)
+    (λ c. search needs)
+    (λ c κs. search needs)
+    (λ c κs. search needs)
     returns
-    add-if2
+    (λ c. search needs)
     returns-2
     returns-3)

@@ -6,24 +6,6 @@ use borrow.Author.Needs.{needs}
 use Rattle.sheet.proofs.reading.system_place.Statement.{statement}
 use Rattle.sheet.proofs.reading.system_place.Tie as tie
 
-linearity-place-requires : tie.Need-linearity-place-requires
-linearity-place-requires c κs = search needs
-
-add-result : tie.Need-add-result
-add-result c = search needs
-
-count-at-requires : tie.Need-count-at-requires
-count-at-requires c κs = search needs
-
-cast-result : tie.Need-cast-result
-cast-result c = search needs
-
-mul-result : tie.Need-mul-result
-mul-result c = search needs
-
-add-result-2 : tie.Need-add-result-2
-add-result-2 c = search needs
-
 returns : tie.Need-returns
 returns c =
     let p = c .before .linearity-place .ensures .0 in
@@ -33,10 +15,10 @@ pub system-place-spec : {M : Type 1} → statement M
 system-place-spec =
     tie.close
     (tie.spec
-    linearity-place-requires
-    add-result
-    count-at-requires
-    cast-result
-    mul-result
-    add-result-2
+    (λ c κs. search needs)
+    (λ c. search needs)
+    (λ c κs. search needs)
+    (λ c. search needs)
+    (λ c. search needs)
+    (λ c. search needs)
     returns)

@@ -17,27 +17,6 @@ abbrev μ-loop : tie.MeasureT-loop
 loop-holds : tie.Need-loop-holds Inv-loop μ-loop
 loop-holds c = (refl, omega arith)
 
-mul-temperature-point-at : tie.Need-mul-temperature-point-at Inv-loop μ-loop
-mul-temperature-point-at c = omega arith
-
-add-temperature-point-at : tie.Need-add-temperature-point-at Inv-loop μ-loop
-add-temperature-point-at c = omega arith
-
-temperature-point-at-requires : tie.Need-temperature-point-at-requires Inv-loop μ-loop
-temperature-point-at-requires c κs = omega arith
-
-mul-points : tie.Need-mul-points Inv-loop μ-loop
-mul-points c = omega arith
-
-array-set-from-points : tie.Need-array-set-from-points Inv-loop μ-loop
-array-set-from-points c = omega arith
-
-add-i : tie.Need-add-i Inv-loop μ-loop
-add-i c = omega arith
-
-loop-less : tie.Need-loop-less Inv-loop μ-loop
-loop-less c = omega arith
-
 loop-again : tie.Need-loop-again Inv-loop μ-loop
 loop-again c =
     let l = c .before .before .loop in
@@ -56,12 +35,12 @@ temperature-points-at-spec =
     Inv-loop
     μ-loop
     loop-holds
-    mul-temperature-point-at
-    add-temperature-point-at
-    temperature-point-at-requires
-    mul-points
-    array-set-from-points
-    add-i
-    loop-less
+    (λ c. omega arith)
+    (λ c. omega arith)
+    (λ c κs. omega arith)
+    (λ c. omega arith)
+    (λ c. omega arith)
+    (λ c. omega arith)
+    (λ c. omega arith)
     loop-again
     returns)

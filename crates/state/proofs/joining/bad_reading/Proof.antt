@@ -12,15 +12,9 @@ elec-test c = simp (toZ-ofZ, c .before .fits .elec) at (c .is-outside .ensures)
 temp-test : (c : tie.After-is-outside2) → c .is-outside2 .result ≡ beyond tempMost (c .before .before .before .args .temp)
 temp-test c = simp (toZ-ofZ, c .before .before .before .fits .temp) at (c .is-outside2 .ensures)
 
-is-outside-requires : tie.Need-is-outside-requires
-is-outside-requires c κs = tt
-
 returns : tie.Need-returns
 unfolding badReading
 returns c = rw (sym (elec-test (c .before)) ∙ c .if1 .taken)
-
-is-outside-requires-2 : tie.Need-is-outside-requires-2
-is-outside-requires-2 c κs = tt
 
 returns-2 : tie.Need-returns-2
 unfolding badReading
@@ -31,4 +25,4 @@ unfolding badReading
 returns-3 c = let e = c .before .before in rw (sym (elec-test (e .before)) ∙ e .if1 .left, sym (temp-test (c .before)) ∙ c .if2 .left)
 
 pub bad-reading-spec : {M : Type 1} → statement M
-bad-reading-spec = tie.close (tie.spec is-outside-requires returns is-outside-requires-2 returns-2 returns-3)
+bad-reading-spec = tie.close (tie.spec (λ c κs. tt) returns (λ c κs. tt) returns-2 returns-3)

@@ -5,13 +5,10 @@ use Rattle.integers.proofs.Machine.{fits, known, held}
 use Rattle.state.proofs.joining.held_after.Statement.{statement}
 use Rattle.state.proofs.joining.held_after.Tie as tie
 
-filter-input-requires : tie.Need-filter-input-requires
-filter-input-requires c κs = search needs
-
 returns : tie.Need-returns
 returns c =
     let s = c .before .before .before in
     held (c .filter-input .ok) (simp (toZ-ofZ, s .fits .elec, fits (known (s .pre .held-in)) tt) at (c .filter-input .ensures))
 
 pub held-after-spec : {M : Type 1} → statement M
-held-after-spec = tie.close (tie.spec filter-input-requires returns)
+held-after-spec = tie.close (tie.spec (λ c κs. search needs) returns)

@@ -16,12 +16,6 @@ built : (r : Readings) (elec temp : ℤ) (v : Values) {e t p q : ℤ} → e ≡ 
 unfolding joined
 built r elec temp v e t p q = rw (e, t, p, q)
 
-peak-after-requires : tie.Need-peak-after-requires
-peak-after-requires c κs = tt
-
-trof-after-requires : tie.Need-trof-after-requires
-trof-after-requires c κs = tt
-
 returns : tie.Need-returns
 returns c =
     let s = c .before .before in
@@ -29,4 +23,4 @@ returns c =
     (held (c .before .peak-after .ok) (c .before .peak-after .ensures)) (held (c .trof-after .ok) (c .trof-after .ensures))
 
 pub join-spec : {M : Type 1} → statement M
-join-spec = tie.close (tie.spec peak-after-requires trof-after-requires returns)
+join-spec = tie.close (tie.spec (λ c κs. tt) (λ c κs. tt) returns)

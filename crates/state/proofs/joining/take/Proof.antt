@@ -15,9 +15,6 @@ built : (s : State) (elec temp : ℤ) (v : Values) {r : Readings} → r ≡ join
 unfolding takenWith
 built s elec temp v e = rw e
 
-join-requires : tie.Need-join-requires
-join-requires c κs = search needs
-
 returns : tie.Need-returns
 returns c =
     let j = c .before .before in
@@ -26,4 +23,4 @@ returns c =
     built (a .state) (a .elec) (a .temp) (a .values) (simp (toZ-ofZ, s .fits .elec, s .fits .temp) at (j .join .ensures))
 
 pub take-spec : {M : Type 1} → statement M
-take-spec = tie.close (tie.spec join-requires returns)
+take-spec = tie.close (tie.spec (λ c κs. search needs) returns)

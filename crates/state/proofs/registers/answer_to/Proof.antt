@@ -33,9 +33,6 @@ returns : tie.Need-returns
 unfolding answered
 returns c = by-case _ _ (c .before .before .frame3 .given .1) (simp (eq-eqb _ _ (c .if1 .taken)))
 
-on-reading-requires : tie.Need-on-reading-requires
-on-reading-requires c κs = tt
-
 enum-told : tie.Need-enum-told
 enum-told c = c .match .keys4
 
@@ -67,7 +64,7 @@ answer-to-spec =
     register-at-requires
     enum-known-frame-3
     returns
-    on-reading-requires
+    (λ c κs. tt)
     enum-told
     returns-2
     returns-3

@@ -8,15 +8,9 @@ use Rattle.state.proofs.Within.{steps-within}
 use Rattle.state.proofs.registers.reading_float.Statement.{statement}
 use Rattle.state.proofs.registers.reading_float.Tie as tie
 
-float-of-whole-requires : tie.Need-float-of-whole-requires
-float-of-whole-requires c κs = tt
-
 returns : tie.Need-returns
 unfolding readingFloat
 returns c = simp (eq-eqb _ _ (c .before .before .if1 .taken)) (c .float-of-whole .ensures)
-
-steps-at-requires : tie.Need-steps-at-requires
-steps-at-requires c κs = tt
 
 float-of-steps-requires : tie.Need-float-of-steps-requires
 float-of-steps-requires c κs =
@@ -30,4 +24,4 @@ returns-2 c =
     simp (ne-eqb _ _ (c .before .before .if1 .left)) (c .float-of-steps .ensures ∙ ap stepFloat (held (s .ok) (s .ensures)))
 
 pub reading-float-spec : {M : Type 1} → statement M
-reading-float-spec = tie.close (tie.spec float-of-whole-requires returns steps-at-requires float-of-steps-requires returns-2)
+reading-float-spec = tie.close (tie.spec (λ c κs. tt) returns (λ c κs. tt) float-of-steps-requires returns-2)

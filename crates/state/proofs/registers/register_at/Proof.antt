@@ -10,9 +10,6 @@ use Rattle.state.proofs.Within.{kept, kept-within}
 use Rattle.state.proofs.registers.register_at.Statement.{statement}
 use Rattle.state.proofs.registers.register_at.Tie as tie
 
-float-of-whole-requires : tie.Need-float-of-whole-requires
-float-of-whole-requires c κs = tt
-
 returns : tie.Need-returns
 unfolding registerAt
 returns c = simp (eq-eqb _ _ (c .before .if1 .taken)) (ap Value (c .float-of-whole .ensures))
@@ -42,9 +39,6 @@ returns-4 c =
     let t = c .before .before in
     simp (ne-eqb _ _ (t .before .before .if1 .left), ne-eqb _ _ (t .before .if2 .left), eq-eqb _ _ (t .if3 .taken), c .if4 .left)
 
-float-of-whole-requires-2 : tie.Need-float-of-whole-requires-2
-float-of-whole-requires-2 c κs = tt
-
 returns-5 : tie.Need-returns-5
 unfolding registerAt
 returns-5 c =
@@ -64,14 +58,14 @@ pub register-at-spec : {M : Type 1} → statement M
 register-at-spec =
     tie.close
     (tie.spec
-    float-of-whole-requires
+    (λ c κs. tt)
     returns
     float-of-steps-requires
     returns-2
     float-of-steps-requires-2
     returns-3
     returns-4
-    float-of-whole-requires-2
+    (λ c κs. tt)
     returns-5
     reading-at-requires
     returns-6)

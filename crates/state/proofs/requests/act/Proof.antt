@@ -4,26 +4,17 @@ use Rattle.state.specs.Request.{acted}
 use Rattle.state.proofs.requests.act.Statement.{statement}
 use Rattle.state.proofs.requests.act.Tie as tie
 
-fresh-requires : tie.Need-fresh-requires
-fresh-requires c κs = tt
-
 returns : tie.Need-returns
 unfolding acted
 returns c = simp (eq-eqb _ _ (c .before .if1 .taken)) (c .fresh .ensures)
 
-snap-requires : tie.Need-snap-requires
-snap-requires c κs = tt
-
 returns-2 : tie.Need-returns-2
 unfolding acted
 returns-2 c = simp (ne-eqb _ _ (c .before .before .if1 .left), eq-eqb _ _ (c .before .if2 .taken)) (c .snap .ensures)
-
-reset-peaks-requires : tie.Need-reset-peaks-requires
-reset-peaks-requires c κs = tt
 
 returns-3 : tie.Need-returns-3
 unfolding acted
 returns-3 c = simp (ne-eqb _ _ (c .before .before .if1 .left), ne-eqb _ _ (c .before .if2 .left)) (c .reset-peaks .ensures)
 
 pub act-spec : {M : Type 1} → statement M
-act-spec = tie.close (tie.spec fresh-requires returns snap-requires returns-2 reset-peaks-requires returns-3)
+act-spec = tie.close (tie.spec (λ c κs. tt) returns (λ c κs. tt) returns-2 (λ c κs. tt) returns-3)

@@ -12,11 +12,8 @@ use Rattle.state.proofs.requests.setup_after.Tie as tie
 zeroed : (s : Setup) (f : Frame) {z : ℤ} → z ≡ zeroBy (s .figures .system .sz) f → record { figures = withZero (s .figures) z; station = s .station } ≡ setupBy s f
 zeroed s f e = rw e
 
-zero-after-requires : tie.Need-zero-after-requires
-zero-after-requires c κs = search needs
-
 returns : tie.Need-returns
 returns c = let s = c .before .before .before .before in zeroed (s .args .setup) (s .args .frame) (rw (held (c .before .struct-told .given .1 .1 .1 .1 .0 .1) refl) at (c .zero-after .ensures))
 
 pub setup-after-spec : {M : Type 1} → statement M
-setup-after-spec = tie.close (tie.spec zero-after-requires returns)
+setup-after-spec = tie.close (tie.spec (λ c κs. search needs) returns)

@@ -24,14 +24,8 @@ others s (Act r) h = absurd (miss (0 ∷ 1 ∷ []) 3 tt h)
 enum-known-frame : tie.Need-enum-known-frame
 enum-known-frame c = c .match .keys1
 
-write-requires : tie.Need-write-requires
-write-requires c κs = tt
-
 enum-known-frame-2 : tie.Need-enum-known-frame-2
 enum-known-frame-2 c = c .match .keys2
-
-act-requires : tie.Need-act-requires
-act-requires c κs = tt
 
 returns : tie.Need-returns
 unfolding stateBy
@@ -45,4 +39,4 @@ returns-3 : tie.Need-returns-3
 returns-3 c = others _ _ (c .match .keys3)
 
 pub state-after-spec : {M : Type 1} → statement M
-state-after-spec = tie.close (tie.spec enum-known-frame write-requires enum-known-frame-2 act-requires returns returns-2 returns-3)
+state-after-spec = tie.close (tie.spec enum-known-frame (λ c κs. tt) enum-known-frame-2 (λ c κs. tt) returns returns-2 returns-3)

@@ -19,11 +19,8 @@ returns : tie.Need-returns
 unfolding written
 returns c = simp (ne-eqb _ _ (c .if1 .taken))
 
-flag-whole-requires : tie.Need-flag-whole-requires
-flag-whole-requires c κs = tt
-
 returns-2 : tie.Need-returns-2
 returns-2 c = let s = c .before .before .before in cleared (s .args .state) (s .args .register) (s .args .x) (c .before .before .if1 .left) (c .before .flag-whole .ensures)
 
 pub write-spec : {M : Type 1} → statement M
-write-spec = tie.close (tie.spec returns flag-whole-requires returns-2)
+write-spec = tie.close (tie.spec returns (λ c κs. tt) returns-2)

@@ -34,9 +34,6 @@ returns c =
     let s = c .before .before .before .before in
     by-case (s .args .sz) (c .before .before .frame .given .1) (simp (eq-eqb _ _ (c .if1 .taken)) (toZ-ofZ w64 _ (s .fits .sz)))
 
-zero-steps-requires : tie.Need-zero-steps-requires
-zero-steps-requires c κs = tt
-
 returns-2 : tie.Need-returns-2
 unfolding zeroBy
 returns-2 c = by-case _ (c .before .before .before .frame .given .1) (simp (ne-eqb _ _ (c .before .if1 .left)) (held (c .zero-steps .ok) (c .zero-steps .ensures)))
@@ -45,4 +42,4 @@ returns-3 : tie.Need-returns-3
 returns-3 c = others (c .before .args .sz) (c .before .args .frame) (c .match .keys2) (toZ-ofZ w64 _ (c .before .fits .sz))
 
 pub zero-after-spec : {M : Type 1} → statement M
-zero-after-spec = tie.close (tie.spec enum-known-frame returns zero-steps-requires returns-2 returns-3)
+zero-after-spec = tie.close (tie.spec enum-known-frame returns (λ c κs. tt) returns-2 returns-3)

@@ -18,15 +18,6 @@ no-nan nan h = is-false (sym nan-differs ∙ h)
 no-nan (inf s) h = tt
 no-nan (fin s m e) h = tt
 
-returns : tie.Need-returns
-returns c = search needs
-
-slice-aggregate-write-all : tie.Need-slice-aggregate-write-all
-slice-aggregate-write-all c = search needs
-
-write-all-requires : tie.Need-write-all-requires
-write-all-requires c κs = search needs
-
 float-to-bits-print-hex : tie.Need-float-to-bits-print-hex
 float-to-bits-print-hex c = no-nan (c .before .before .before .args .x) (c .before .before .if1 .left)
 
@@ -35,20 +26,14 @@ cast-print-hex c =
     let h : toBits binary32 (c .before .before .before .args .x) < 2 ^ 32 = toBits-lt binary32 (c .before .before .before .args .x) (search needs) in
     record { fits = omega arith }
 
-print-hex-requires : tie.Need-print-hex-requires
-print-hex-requires c κs = search needs
-
-returns-2 : tie.Need-returns-2
-returns-2 c = search needs
-
 pub print-float-spec : {M : Type 1} → statement M
 print-float-spec =
     tie.close
     (tie.spec
-    returns
-    slice-aggregate-write-all
-    write-all-requires
+    (λ c. search needs)
+    (λ c. search needs)
+    (λ c κs. search needs)
     float-to-bits-print-hex
     cast-print-hex
-    print-hex-requires
-    returns-2)
+    (λ c κs. search needs)
+    (λ c. search needs))
