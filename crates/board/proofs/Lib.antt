@@ -1,7 +1,6 @@
 mod Field
 mod Kept
 mod Record
-mod Outcome
 mod Call
 mod Callees
 mod Branch

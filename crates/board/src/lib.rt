@@ -7,18 +7,17 @@ ghost use Rattle.converter.specs.Call.{obeyed};
 ghost use Rattle.converter.specs.Reached.{Reached, Making, Reading, Serving};
 use converter::Answered;
 use converter::Device;
+use converter::Outcome;
 use modbus::frame::Frame;
 use state::Reported;
 
-// A device of a calibration sheet and a station, into a record that may hold anything before: 0, or 8, then 1 to 7. A refused making
-// leaves a record of zeros, which is no device.
+// A device of a calibration sheet and a station: 8, then 1 to 7, and a record in which every field is 0, which is no device. The
+// outcome is given by value, so that a sheet that is refused leaves the board's record as it is.
 #[no_mangle]
-pub extern "C" fn converter_make(device: &mut Device, sheet: &[u8], station: u8) -> u8
-    ensures { λ r. ⌜ Making (now (sheet .entry)) station (record { number = r; device = now (device .exit) }) ⌝ }
+pub extern "C" fn converter_make(sheet: &[u8], station: u8) -> Outcome
+    ensures { λ r. ⌜ Making (now (sheet .entry)) station r ⌝ }
 {
-    let outcome = Device::make(sheet, station);
-    *device = outcome.device;
-    outcome.number
+    Device::make(sheet, station)
 }
 
 // A reading, from ELEC, TEMP and the integrity byte: 0, or 9.
