@@ -50,7 +50,7 @@ module _ (c : Calibration) (elec temp : ℤ) (ok : Acceptable c) (held : elec wi
       near-gain 64 (c .cell .cgai) one one-above (omega (arith, ok .cell-ok .cgai-in .abs))
       (near-sub (near-sub (near-whole 0 32 elec) (near-whole 0 32 (c .cell .cofs))) o-near)
 
-  raw-cell-near : Near 1315 32 (rawCell c elec temp) (rawCellF c elec temp)
+  pub raw-cell-near : Near 1315 32 (rawCell c elec temp) (rawCellF c elec temp)
   unfolding rawCellAt rawCellF scaled
   raw-cell-near = near-adjust one one-above (omega (arith, cell-magnitudes-of c elec temp ok held .y-within .abs)) (omega (arith, g-small .small)) y-near g-near
 
@@ -62,7 +62,7 @@ module _ (c : Calibration) (elec temp : ℤ) (ok : Acceptable c) (held : elec wi
   unfolding cellAt cellF
   cell-near = near-correct 1 (linearities (c .linearity)) (ok .linearity-ok .rising) (ok .linearity-ok .gentle) craw-near
 
-  raw-system-near : Near 13296 32 (rawSystem c elec temp) (rawSystemF c elec temp)
+  pub raw-system-near : Near 13296 32 (rawSystem c elec temp) (rawSystemF c elec temp)
   unfolding rawSystemAt rawSystemF scaled
   raw-system-near = near-gain 8 (c .system .sgai) one one-above (omega (arith, ok .system-ok .sgai-in .abs)) (near-sub cell-near (near-whole 0 32 (c .system .sofs)))
 

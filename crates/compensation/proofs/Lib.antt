@@ -8,3 +8,4 @@ pub mod FilterCases
 pub mod StatBits
 pub mod Flags
 pub mod Faithful
+pub mod Distances

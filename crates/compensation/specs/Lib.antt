@@ -5,3 +5,4 @@ pub mod Exact
 pub mod Stat
 pub mod Values
 pub mod Faithful
+pub mod Distances
