@@ -3,8 +3,9 @@
 use mathlib.Core.Path.{_≡_}
 use mathlib.Core.Bool.{Bool, true, false}
 use mathlib.Core.List.{List, [], _∷_, map}
-use Prim.Native.Nat.{ℕ}
+use Prim.Native.Nat.{ℕ, _+_}
 use lib.IntN.{ℤ, pos, negℤ}
+use lib.ListN.{length}
 use lib.Ieee.{Float, fin, binary32, toBits, ofBits}
 use Rattle.arithmetic.specs.Round.{roundDiv}
 use Rattle.arithmetic.specs.Table.{Point, interpolated}
@@ -62,7 +63,18 @@ pub data Case : Type 0 where
   -- a pattern written to SZ: the float that it is, whether SZ takes it, and SZ in steps
   becomes : (pattern : ℕ) (x : Float) (taken : Bool) (steps : ℤ) → Case
 
--- the case with the results that the definitions give from its arguments
+-- the case with its arguments alone, each result 0
+abbrev pub asked : Case → Case
+asked (rounded a d _) = rounded a d (pos 0)
+asked (atPoints t _) = atPoints t (pos 0)
+asked (inDefault elec _ _ _) = inDefault elec (pos 0) (pos 0) 0
+asked (adjusted g _) = adjusted g (pos 0)
+asked (filteredBy fflv _) = filteredBy fflv (pos 0)
+asked (goesOut steps _) = goesOut steps 0
+asked (judged clk _) = judged clk 0
+asked (becomes pattern _ _ _) = becomes pattern (fin false 0 (pos 0)) false (pos 0)
+
+-- with the results that the definitions give from its arguments
 abbrev pub worked : Case → Case
 worked (rounded a d _) = rounded a d (roundDiv a d)
 worked (atPoints t _) = atPoints t (interpolated 1 twoPoints t)
@@ -109,5 +121,8 @@ starred =
     ∷ becomes 0xB7000000 (fin true 1 (negℤ (pos 17))) true (pos 0)
     ∷ []
 
-abbrev pub Starred : Type 0
-Starred = map worked starred ≡ starred
+-- Each case is worked from what it asks: of every kind some case has a result that is not 0, so that none is taken over. And no
+-- case is missing: the paper's eight lines have so many.
+pub record Starred : Type 0 where
+  pub hold : map worked (map asked starred) ≡ starred
+  pub all : length starred ≡ 3 + 3 + 2 + 2 + 2 + 4 + 2 + 2
