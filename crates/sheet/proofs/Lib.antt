@@ -16,4 +16,5 @@ pub mod Judged
 pub mod Theorems
 pub mod Range
 pub mod Edges
+mod DefaultBytes
 mod Apart

@@ -2,4 +2,5 @@ pub mod Bytes
 pub mod Judge
 pub mod Read
 pub mod Write
+pub mod DefaultBytes
 pub mod Step
