@@ -23,7 +23,7 @@ mul-result : tie.Need-mul-result
 mul-result c = simp (toZ-ofZ, c .fits .x, c .fits .gain) (product-fits c)
 
 add-result : tie.Need-add-result
-add-result c = simp (toZ-ofZ, c .fits .x, c .fits .gain, product-fits c) (sum-fits c)
+add-result c = simp (toZ-ofZ, c .fits .x, c .fits .gain, product-fits c) (fits (sum (known (c .pre)) (literal _)) tt)
 
 returns : tie.Need-returns
 unfolding scaled
