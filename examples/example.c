@@ -1,7 +1,9 @@
-/* Make a device of the default sheet, take readings, and answer frames: what a board does all day. In the last report
- * the four values differ, so that a header with their order changed does not pass. */
+/* Make a device of the default sheet, take readings, and answer frames: what a board does all day; then load bad sheets
+ * while it runs, which disturbs nothing. In the last report the four values differ, so that a header with their order
+ * changed does not pass. */
 #include "converter.h"
 #include <stdio.h>
+#include <string.h>
 
 static size_t put_figure(uint8_t *out, size_t at, int64_t figure)
 {
@@ -30,6 +32,27 @@ static size_t default_sheet(uint8_t *out)
     return at;
 }
 
+/* Puts the checksum behind a frame of `length` bytes, low byte first. */
+static size_t sealed(uint8_t *frame, size_t length)
+{
+    unsigned checksum = 0xffff;
+    for (size_t i = 0; i < length; i++) {
+        checksum ^= frame[i];
+        for (int bit = 0; bit < 8; bit++)
+            checksum = checksum & 1 ? checksum >> 1 ^ 0xa001 : checksum >> 1;
+    }
+    frame[length] = (uint8_t)checksum;
+    frame[length + 1] = (uint8_t)(checksum >> 8);
+    return length + 2;
+}
+
+/* A read: station 52, function 3, wire address, quantity 2. */
+static converter_answered read_register(converter_device *device, unsigned address, uint8_t *reply, size_t room)
+{
+    uint8_t frame[8] = {52, 3, (uint8_t)(address >> 8), (uint8_t)address, 0, 2};
+    return converter_frame(device, frame, sealed(frame, 6), reply, room);
+}
+
 static void print_reply(const char *what, converter_answered answered, const uint8_t *reply)
 {
     printf("%s: %u,", what, answered.number);
@@ -44,33 +67,87 @@ static void print_report(converter_reported reported)
            reported.report.peak, reported.report.trof, reported.report.cell);
 }
 
+/* All that a device answers: a read of each register, number and bytes, and its report. */
+enum { REGISTERS = 16 };
+typedef struct { uint8_t number[REGISTERS], reply[REGISTERS][9]; converter_reported report; } answers;
+
+static void ask_all(converter_device *device, answers *all)
+{
+    static const uint8_t registers[REGISTERS] = {
+        CONVERTER_REGISTER_STAT, CONVERTER_REGISTER_SOUT, CONVERTER_REGISTER_SYS,  CONVERTER_REGISTER_TEMP,
+        CONVERTER_REGISTER_SRAW, CONVERTER_REGISTER_CELL, CONVERTER_REGISTER_FLAG, CONVERTER_REGISTER_CRAW,
+        CONVERTER_REGISTER_ELEC, CONVERTER_REGISTER_SZ,   CONVERTER_REGISTER_SYSN, CONVERTER_REGISTER_PEAK,
+        CONVERTER_REGISTER_TROF, CONVERTER_REGISTER_RST,  CONVERTER_REGISTER_SNAP, CONVERTER_REGISTER_PEAK_RESET};
+    memset(all, 0, sizeof *all);
+    for (size_t i = 0; i < REGISTERS; i++)
+        all->number[i] = read_register(device, registers[i], all->reply[i], sizeof all->reply[i]).number;
+    all->report = converter_report(device);
+}
+
+static bool same(const answers *a, const answers *b)
+{
+    const converter_report_values *r = &a->report.report, *s = &b->report.report;
+    return memcmp(a->number, b->number, sizeof a->number) == 0 && memcmp(a->reply, b->reply, sizeof a->reply) == 0 &&
+           a->report.number == b->report.number && r->sys == s->sys && r->peak == s->peak && r->trof == s->trof &&
+           r->cell == s->cell;
+}
+
+/* A new sheet for a device that may be in use: the record is assigned only where the sheet is accepted. */
+static uint8_t load(converter_device *device, const uint8_t *sheet, size_t length, uint8_t station)
+{
+    converter_outcome made = converter_make(sheet, length, station);
+    if (made.number == 0)
+        *device = made.device;
+    return made.number;
+}
+
+static void load_bad(const char *what, converter_device *device, const uint8_t *sheet, size_t length, uint8_t station)
+{
+    answers before, after;
+    ask_all(device, &before);
+    uint8_t number = load(device, sheet, length, station);
+    ask_all(device, &after);
+    printf("%s: %u, the device answers %s\n", what, number, same(&before, &after) ? "as before" : "otherwise");
+}
+
 int main(void)
 {
     static converter_device device;
     uint8_t sheet[325], reply[16];
     size_t length = default_sheet(sheet);
-    printf("make: %u (%zu bytes)\n", converter_make(&device, sheet, length, 52), length);
+    printf("make: %u (%zu bytes)\n", load(&device, sheet, length, 52), length);
 
     /* 100 % at 20 degrees. */
     printf("reading: %u\n", converter_reading(&device, 6553600, 1310720, 0));
     print_report(converter_report(&device));
-
-    /* Station 52, function 3, wire address 20 (SYS), quantity 2, checksum. */
-    static const uint8_t read_sys[] = {0x34, 0x03, 0x00, 0x14, 0x00, 0x02, 0x81, 0xaa};
-    print_reply("read SYS", converter_frame(&device, read_sys, sizeof read_sys, reply, sizeof reply), reply);
+    print_reply("read SYS", read_register(&device, CONVERTER_REGISTER_SYS, reply, sizeof reply), reply);
 
     /* Register 7 is not listed: exception 2. */
-    static const uint8_t read_7[] = {0x34, 0x03, 0x00, 0x0e, 0x00, 0x02, 0xa0, 0x6d};
-    print_reply("read register 7", converter_frame(&device, read_7, sizeof read_7, reply, sizeof reply), reply);
+    print_reply("read register 7", read_register(&device, 2 * 7, reply, sizeof reply), reply);
 
-    /* A damaged frame is not answered. */
-    print_reply("damaged", converter_frame(&device, read_sys, sizeof read_sys - 1, reply, sizeof reply), reply);
+    /* A damaged frame is not answered: here the last byte is missing. */
+    static const uint8_t damaged[] = {0x34, 0x03, 0x00, 0x14, 0x00, 0x02, 0x81};
+    print_reply("damaged", converter_frame(&device, damaged, sizeof damaged, reply, sizeof reply), reply);
 
     /* SZ 25, to all stations: obeyed and not answered. It counts from the next reading: 50 %, then 75 %. */
-    static const uint8_t write_sz[] = {0x00, 0x10, 0x00, 0x2c, 0x00, 0x02, 0x04, 0x00, 0x00, 0x41, 0xc8, 0xc4, 0xd8};
-    print_reply("broadcast SZ", converter_frame(&device, write_sz, sizeof write_sz, reply, sizeof reply), reply);
+    uint8_t write_sz[13] = {0, 16, 0, CONVERTER_REGISTER_SZ, 0, 2, 4, 0x00, 0x00, 0x41, 0xc8};
+    print_reply("broadcast SZ", converter_frame(&device, write_sz, sealed(write_sz, 11), reply, sizeof reply), reply);
     printf("reading: %u\n", converter_reading(&device, 3276800, 1310720, 0));
     printf("reading: %u\n", converter_reading(&device, 4915200, 1310720, 0));
+    print_report(converter_report(&device));
+
+    /* Bad sheets, loaded on the running device. */
+    load_bad("sheet cut short", &device, sheet, length - 1, 52);
+    load_bad("station 0", &device, sheet, length, 0);
+    put_figure(sheet, 9, (int64_t)1 << 40);
+    load_bad("CGAI beyond its range", &device, sheet, length, 52);
+    print_report(converter_report(&device));
+
+    /* A good one, CGAI 2: the device starts anew. */
+    put_figure(sheet, 9, 2 * 268435456);
+    printf("good sheet: %u\n", load(&device, sheet, length, 52));
+    print_report(converter_report(&device));
+    printf("reading: %u\n", converter_reading(&device, 3276800, 1310720, 0));
     print_report(converter_report(&device));
     return 0;
 }

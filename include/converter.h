@@ -1,26 +1,42 @@
 /* The converter of a load cell: readings, calibration sheet and Modbus RTU (paper 01), proved in Rattle.
  *
- * Link the archive libboard.a (`rt staticlib board`). There is no heap and no global state: everything that a device
- * is stands in one record that the caller keeps, for as long as it likes and where it likes. A call runs to its end on
- * the caller's stack, and two devices are independent of each other.
+ * Link the archive libboard.a (`rt staticlib board`, x86-64). There is no heap and no global state: everything that a
+ * device is stands in one record that the caller keeps, for as long as it likes and where it likes. A call runs to its
+ * end on the caller's stack, and two devices are independent of each other.
  *
- * What a caller has to keep: pointers point to what they are said to, lengths are true, a record is used by one call
- * at a time, and a record that is handed to converter_reading, converter_report or converter_frame was filled by an
- * accepted converter_make and changed by these calls alone. Nothing else is asked: every byte and every number is
- * taken, and what does not fit is refused with a number.
+ * What a caller has to keep:
+ * - Pointers are not null and point to what they are said to; lengths are true.
+ * - Record, frame and reply buffer of a call do not overlap, and a record is used by one call at a time.
+ * - A record that is handed to converter_reading, converter_report or converter_frame is the device of an accepted
+ *   converter_make, or a copy of such a record, changed by these calls alone.
+ * - Floats are in the default mode of IEEE 754. Round to nearest: in another mode a sent value beyond +-256 may differ
+ *   in its last bit. Subnormals are not taken as zeros: one written to FLAG is 16, as a zero it would clear every bit.
+ *   No traps: a call may raise inexact and denormal.
+ * Nothing else is asked: every byte and every number is taken, and what does not fit is refused with a number.
  *
  * Who finds the frames: the caller. On the line a frame ends with a silence of 3.5 characters (t3.5); hand over what
- * stood between two silences, whole, and send the reply, if there is one, after the next. */
+ * stood between two silences, whole, and send the reply, if there is one, after the next.
+ *
+ * Symbols that the archive needs: memset.
+ * Bytes of stack, at most, return address and red zone included: converter_make 1024, and what memset takes;
+ * converter_reading 128; converter_report 64; converter_frame 256. */
 #ifndef CONVERTER_H
 #define CONVERTER_H
 
+#ifndef __cplusplus
 #include <stdbool.h>
+#endif
 #include <stddef.h>
 #include <stdint.h>
 
 #ifdef __cplusplus
 extern "C" {
 #endif
+
+/* Another MAJOR: code that was compiled with the older header must not be linked with this archive. */
+#define CONVERTER_VERSION_MAJOR 1
+#define CONVERTER_VERSION_MINOR 0
+#define CONVERTER_VERSION_PATCH 0
 
 /* Numbers of refusal; 0 is an accepted call. */
 enum {
@@ -40,6 +56,40 @@ enum {
     CONVERTER_FUNCTION = 14,     /* not 3 or 16 */
     CONVERTER_ADDRESS = 15,      /* odd, or not twice a listed register */
     CONVERTER_VALUE = 16         /* wrong length, quantity or byte count, read-only, or an unfit value */
+};
+
+/* Registers, as wire addresses: what stands in a frame, twice 004's register number. */
+enum {
+    CONVERTER_REGISTER_STAT = 2 * 6,
+    CONVERTER_REGISTER_SOUT = 2 * 9,
+    CONVERTER_REGISTER_SYS = 2 * 10,
+    CONVERTER_REGISTER_TEMP = 2 * 11,
+    CONVERTER_REGISTER_SRAW = 2 * 12,
+    CONVERTER_REGISTER_CELL = 2 * 13,
+    CONVERTER_REGISTER_FLAG = 2 * 14, /* takes a write */
+    CONVERTER_REGISTER_CRAW = 2 * 15,
+    CONVERTER_REGISTER_ELEC = 2 * 16,
+    CONVERTER_REGISTER_SZ = 2 * 22, /* takes a write */
+    CONVERTER_REGISTER_SYSN = 2 * 23,
+    CONVERTER_REGISTER_PEAK = 2 * 24,
+    CONVERTER_REGISTER_TROF = 2 * 25,
+    CONVERTER_REGISTER_RST = 2 * 100,       /* takes a write */
+    CONVERTER_REGISTER_SNAP = 2 * 103,      /* takes a write */
+    CONVERTER_REGISTER_PEAK_RESET = 2 * 104 /* takes a write */
+};
+
+/* Bits of STAT and FLAG. */
+enum {
+    CONVERTER_FLAG_TEMPUR = 4,     /* TEMP below -50 degrees */
+    CONVERTER_FLAG_TEMPOR = 8,     /* TEMP above 90 degrees */
+    CONVERTER_FLAG_ECOMUR = 16,    /* ELEC below -120 % */
+    CONVERTER_FLAG_ECOMOR = 32,    /* ELEC above 120 % */
+    CONVERTER_FLAG_CRAWUR = 64,    /* raw cell value below CMIN */
+    CONVERTER_FLAG_CRAWOR = 128,   /* raw cell value above CMAX */
+    CONVERTER_FLAG_SYSUR = 256,    /* raw system value below SMIN */
+    CONVERTER_FLAG_SYSOR = 512,    /* raw system value above SMAX */
+    CONVERTER_FLAG_LCINTEG = 2048, /* integrity byte 1 */
+    CONVERTER_FLAG_REBOOT = 32768  /* a start or RST; in FLAG only */
 };
 
 /* ---- The record. Its fields are for the library; a debugger may look at them. Counts are steps of 1/65,536 of a
@@ -68,24 +118,10 @@ typedef struct { bool taken; int64_t sysn; } converter_snapshot;
 typedef struct { converter_readings readings; uint16_t flag; converter_snapshot snapshot; } converter_state;
 typedef struct { converter_setup setup; converter_state state; } converter_device;
 
-/* 448 bytes, 8-byte alignment. */
-#if defined(__cplusplus) || (defined(__STDC_VERSION__) && __STDC_VERSION__ >= 201112L)
-#ifdef __cplusplus
-#define CONVERTER_ASSERT static_assert
-#else
-#define CONVERTER_ASSERT _Static_assert
-#endif
-CONVERTER_ASSERT(sizeof(converter_calibration) == 336, "the figures take 336 bytes");
-CONVERTER_ASSERT(offsetof(converter_calibration, linearity) == 160, "linearity at 160");
-CONVERTER_ASSERT(offsetof(converter_calibration, system) == 280, "system at 280");
-CONVERTER_ASSERT(offsetof(converter_setup, station) == 336, "station at 336");
-CONVERTER_ASSERT(offsetof(converter_device, state) == 344, "state at 344");
-CONVERTER_ASSERT(offsetof(converter_state, flag) == 80, "flag at 80 of the state");
-CONVERTER_ASSERT(sizeof(converter_device) == 448, "the record takes 448 bytes");
-#undef CONVERTER_ASSERT
-#endif
-
 /* ---- What calls answer. */
+
+/* The number, and the device; beside a refusal a record in which every field is 0, which is no device. */
+typedef struct { uint8_t number; converter_device device; } converter_outcome;
 
 typedef struct { float sys, peak, trof, cell; } converter_report_values;
 
@@ -97,9 +133,10 @@ typedef struct { uint8_t number; size_t length; } converter_answered;
 
 /* ---- The calls. */
 
-/* Fills the record from a calibration sheet of `length` bytes and a station. Takes any bytes and any station.
- * Answers 0; or 8, then 1 to 7, and the record then is all zeros, which is no device. The sheet is not kept. */
-uint8_t converter_make(converter_device *device, const uint8_t *sheet, size_t length, uint8_t station);
+/* A device of a calibration sheet of `length` bytes and a station. Takes any bytes and any station. Answers 0 and the
+ * device; or 8, then 1 to 7, and no device. It writes to no record: one that is in use stays as it is until the caller
+ * assigns the new device to it. The sheet is not kept. */
+converter_outcome converter_make(const uint8_t *sheet, size_t length, uint8_t station);
 
 /* A reading: ELEC in steps of a percent, TEMP in steps of a degree, and 0 (sound) or 1 (fault).
  * Answers 0; or 9, and the record is as it was. */
@@ -114,6 +151,41 @@ converter_reported converter_report(const converter_device *device);
  * the buffer past the reply are untouched. */
 converter_answered converter_frame(converter_device *device, const uint8_t *frame, size_t length, uint8_t *reply,
                                    size_t room);
+
+/* ---- The archive's layout: does this compiler lay the records out the same? Where not, an array has length -1. */
+
+#define CONVERTER_SIZE(record, size) \
+    typedef char converter_##record##_takes_##size[sizeof(converter_##record) == size ? 1 : -1]
+#define CONVERTER_AT(record, field, offset) \
+    typedef char converter_##record##_##field##_at_##offset[offsetof(converter_##record, field) == offset ? 1 : -1]
+
+CONVERTER_SIZE(cell, 32); CONVERTER_AT(cell, cgai, 8); CONVERTER_AT(cell, cmin, 16); CONVERTER_AT(cell, cmax, 24);
+CONVERTER_SIZE(temperature_point, 24); CONVERTER_AT(temperature_point, cto, 8);
+CONVERTER_AT(temperature_point, ctg, 16);
+CONVERTER_SIZE(temperature, 128); CONVERTER_AT(temperature, points, 8);
+CONVERTER_SIZE(linearity_point, 16); CONVERTER_AT(linearity_point, clk, 8);
+CONVERTER_SIZE(linearity, 120); CONVERTER_AT(linearity, points, 8);
+CONVERTER_SIZE(system, 40); CONVERTER_AT(system, sgai, 8); CONVERTER_AT(system, smin, 16);
+CONVERTER_AT(system, smax, 24); CONVERTER_AT(system, sz, 32);
+CONVERTER_SIZE(filter, 16); CONVERTER_AT(filter, ffst, 8);
+CONVERTER_SIZE(calibration, 336); CONVERTER_AT(calibration, temperature, 32); CONVERTER_AT(calibration, linearity, 160);
+CONVERTER_AT(calibration, system, 280); CONVERTER_AT(calibration, filter, 320);
+CONVERTER_SIZE(setup, 344); CONVERTER_AT(setup, station, 336);
+CONVERTER_SIZE(values, 40); CONVERTER_AT(values, cell, 8); CONVERTER_AT(values, sraw, 16);
+CONVERTER_AT(values, sys, 24); CONVERTER_AT(values, stat, 32);
+CONVERTER_SIZE(readings, 80); CONVERTER_AT(readings, elec, 8); CONVERTER_AT(readings, temp, 16);
+CONVERTER_AT(readings, values, 24); CONVERTER_AT(readings, peak, 64); CONVERTER_AT(readings, trof, 72);
+CONVERTER_SIZE(snapshot, 16); CONVERTER_AT(snapshot, sysn, 8);
+CONVERTER_SIZE(state, 104); CONVERTER_AT(state, flag, 80); CONVERTER_AT(state, snapshot, 88);
+CONVERTER_SIZE(device, 448); CONVERTER_AT(device, state, 344);
+CONVERTER_SIZE(outcome, 456); CONVERTER_AT(outcome, device, 8);
+CONVERTER_SIZE(answered, 16); CONVERTER_AT(answered, length, 8);
+CONVERTER_SIZE(report_values, 16); CONVERTER_AT(report_values, peak, 4); CONVERTER_AT(report_values, trof, 8);
+CONVERTER_AT(report_values, cell, 12);
+CONVERTER_SIZE(reported, 20); CONVERTER_AT(reported, report, 4);
+
+#undef CONVERTER_SIZE
+#undef CONVERTER_AT
 
 #ifdef __cplusplus
 }

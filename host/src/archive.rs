@@ -1,8 +1,7 @@
 //! The proved library, linked as libboard.a: the declarations of include/converter.h, and the trait over them.
 //! `bool` is declared as a byte here, so that no byte the archive stores can be undefined.
 
-use model::sheet::{LinearityPoint, TemperaturePoint};
-use model::{Converter, Figures, Reading};
+use model::{sheet, Converter, Figures, Reading};
 
 macro_rules! record {
     ($name:ident { $($field:ident: $kind:ty),* $(,)? }) => {
@@ -13,10 +12,10 @@ macro_rules! record {
 }
 
 record!(Cell { cofs: i64, cgai: i64, cmin: i64, cmax: i64 });
-record!(TPoint { ct: i64, cto: i64, ctg: i64 });
-record!(Temperature { ctn: u8, points: [TPoint; 5] });
-record!(LPoint { clx: i64, clk: i64 });
-record!(Linearity { cln: u8, points: [LPoint; 7] });
+record!(TemperaturePoint { ct: i64, cto: i64, ctg: i64 });
+record!(Temperature { ctn: u8, points: [TemperaturePoint; 5] });
+record!(LinearityPoint { clx: i64, clk: i64 });
+record!(Linearity { cln: u8, points: [LinearityPoint; 7] });
 record!(System { sofs: i64, sgai: i64, smin: i64, smax: i64, sz: i64 });
 record!(Filter { fflv: i64, ffst: i64 });
 record!(Calibration { cell: Cell, temperature: Temperature, linearity: Linearity, system: System, filter: Filter });
@@ -26,21 +25,24 @@ record!(Readings { any: u8, elec: i64, temp: i64, values: Values, peak: i64, tro
 record!(Snapshot { taken: u8, sysn: i64 });
 record!(State { readings: Readings, flag: u16, snapshot: Snapshot });
 record!(Device { setup: Setup, state: State });
+record!(Outcome { number: u8, device: Device });
 record!(Report { sys: f32, peak: f32, trof: f32, cell: f32 });
 record!(Reported { number: u8, report: Report });
 record!(Answered { number: u8, length: usize });
 
 extern "C" {
-    fn converter_make(device: *mut Device, sheet: *const u8, n: usize, station: u8) -> u8;
+    fn converter_make(sheet: *const u8, length: usize, station: u8) -> Outcome;
     fn converter_reading(device: *mut Device, elec: i64, temp: i64, integrity: u8) -> u8;
     fn converter_report(device: *const Device) -> Reported;
-    fn converter_frame(device: *mut Device, frame: *const u8, n: usize, reply: *mut u8, room: usize) -> Answered;
+    fn converter_frame(device: *mut Device, frame: *const u8, length: usize, reply: *mut u8, room: usize) -> Answered;
 }
 
 // Each call lends live Rust memory with its true length for the time of the call only.
 impl Converter for Device {
     fn make(&mut self, sheet: &[u8], station: u8) -> u8 {
-        unsafe { converter_make(self, sheet.as_ptr(), sheet.len(), station) }
+        let made = unsafe { converter_make(sheet.as_ptr(), sheet.len(), station) };
+        *self = made.device;
+        made.number
     }
 
     fn reading(&mut self, elec: i64, temp: i64, integrity: u8) -> u8 {
@@ -90,9 +92,9 @@ impl From<Calibration> for Figures {
             cmin: c.cell.cmin,
             cmax: c.cell.cmax,
             ctn: c.temperature.ctn,
-            temperature: c.temperature.points.map(|TPoint { ct, cto, ctg }| TemperaturePoint { ct, cto, ctg }),
+            temperature: c.temperature.points.map(|p| sheet::TemperaturePoint { ct: p.ct, cto: p.cto, ctg: p.ctg }),
             cln: c.linearity.cln,
-            linearity: c.linearity.points.map(|LPoint { clx, clk }| LinearityPoint { clx, clk }),
+            linearity: c.linearity.points.map(|p| sheet::LinearityPoint { clx: p.clx, clk: p.clk }),
             sofs: c.system.sofs,
             sgai: c.system.sgai,
             smin: c.system.smin,
