@@ -17,7 +17,7 @@
  * Who finds the frames: the caller. On the line a frame ends with a silence of 3.5 characters (t3.5); hand over what
  * stood between two silences, whole, and send the reply, if there is one, after the next.
  *
- * Symbols that the archive needs: memset.
+ * Symbols that the archive needs: memset. (The caller's compiler may ask for memcpy, to assign a record.)
  * Bytes of stack, at most, return address and red zone included: converter_make 1024, and what memset takes;
  * converter_reading 128; converter_report 64; converter_frame 256. */
 #ifndef CONVERTER_H
