@@ -93,12 +93,6 @@ round-at-most a k (pos m) h l = ≤-unless (roundDiv a (pos m)) k (λ g.
 pub round-whole : (k d : ℤ) → pos 0 <ℤ d → roundDiv (k *ℤ d) d ≡ k
 round-whole k d h = ≤-antisym (round-at-most (k *ℤ d) k d h (≤ℤ-refl (k *ℤ d))) (round-at-least (k *ℤ d) k d h (≤ℤ-refl (k *ℤ d)))
 
-pub round-nonneg : (a d : ℤ) → pos 0 <ℤ d → pos 0 ≤ℤ a → pos 0 ≤ℤ roundDiv a d
-round-nonneg a d h l = round-at-least a (pos 0) d h (le! (nat 0 ⊗ ⟨ d ⟩) ⟨ a ⟩ (omega ints))
-
-pub round-nonpos : (a d : ℤ) → pos 0 <ℤ d → a ≤ℤ pos 0 → roundDiv a d ≤ℤ pos 0
-round-nonpos a d h l = round-at-most a (pos 0) d h (le! ⟨ a ⟩ (nat 0 ⊗ ⟨ d ⟩) (omega ints))
-
 -- |a| ≤ n·d: |r| ≤ n
 pub round-within : {n : ℕ} (a d : ℤ) → pos 0 <ℤ d → a within (n * natAbs d) → (roundDiv a d) within n
 round-within a (negsuc m) h k = absurd (h .lt)

@@ -82,7 +82,8 @@ module _ {M : Type 1} {𝓤 : URA M} {H : Heap 𝓤} {A : Atoms 𝓤} {K : Type 
       → (φ : Res (g .ended .signature) (x .0) → Lasts (g .ended) (x .0) (x .3) → Type 0) → ((r : Res (g .ended .signature) (x .0)) (ws : Lasts (g .ended) (x .0) (x .3)) → ent 𝓤 (g .clauses 𝓤 H A mem run (x .0) (x .3) .ensures γ r (atExit (g .ended) (x .0) (x .3) ws)) (fact 𝓤 (φ r ws)))
       → Opds K W (raw (triple 𝓤 H A mem run g .pre (x, γ)) ∷ Γ) E xs (passed 𝓤 H A (g .ended .signature) x)
       → (n : ℕ) {b o : ℕ} → nth 𝓤 H A n Γ ≡ ‵ (froom (g .result) b o) → spotOf 𝓤 H E i ≡ (g .result, b, o)
-      → ((v : Val) (r : Res (g .ended .signature) (x .0)) (ws : Lasts (g .ended) (x .0) (x .3)) → φ r ws → Is (typeAt (g .ended .signature .result) (x .0)) r (v ∷ []) → Seq K W (‵ (lasts (g .ended) (x .0) (x .3) ws) ∷ raw (alive 𝓤 H A (g .ended .signature) (x .0) (x .1)) ∷ put 𝓤 H A n (‵ (fat fullShare (g .result) b o v)) Γ) (runs C Λ E rest q))
+      → ((v : Val) (r : Res (g .ended .signature) (x .0)) (ws : Lasts (g .ended) (x .0) (x .3)) → φ r ws → Is (typeAt (g .ended .signature .result) (x .0)) r (v ∷ [])
+      → Seq K W (‵ (lasts (g .ended) (x .0) (x .3) ws) ∷ raw (alive 𝓤 H A (g .ended .signature) (x .0) (x .1)) ∷ put 𝓤 H A n (‵ (fat fullShare (g .result) b o v)) Γ) (runs C Λ E rest q))
       → Seq K W (j ∷ Γ) (runs C Λ E (seq (call (g .name) xs (place i [])) rest) q)
   calls-out t fm g known x γ asks φ told os n {b} {o} is-room spot k =
       let S = g .ended .signature in let c = triple 𝓤 H A mem run g in let R = typeAt (S .result) (x .0) in let L = Lasts (g .ended) (x .0) (x .3) in

@@ -165,7 +165,9 @@ module _ (d : Device) (is : IsDevice d) where
   unfolding mach mach-state
   state-is = LL.owed D.the-type D′.the-laws d _ is .1 .0
 
-  pub five-is : Is C.the-row (d .setup .figures .cell) (mach-cell (d .setup .figures .cell) ∷ []) × (Is T.the-row (d .setup .figures .temperature) (mach-temperature (d .setup .figures .temperature) ∷ []) × (Is L.the-row (d .setup .figures .linearity) (mach-linearity (d .setup .figures .linearity) ∷ []) × (Is Y.the-row (d .setup .figures .system) (mach-system (d .setup .figures .system) ∷ []) × (Is I.the-row (d .setup .figures .filter) (mach-filter (d .setup .figures .filter) ∷ []) × Unit {0}))))
+  pub five-is : Is C.the-row (d .setup .figures .cell) (mach-cell (d .setup .figures .cell) ∷ []) ×
+      (Is T.the-row (d .setup .figures .temperature) (mach-temperature (d .setup .figures .temperature) ∷ []) ×
+      (Is L.the-row (d .setup .figures .linearity) (mach-linearity (d .setup .figures .linearity) ∷ []) × (Is Y.the-row (d .setup .figures .system) (mach-system (d .setup .figures .system) ∷ []) × (Is I.the-row (d .setup .figures .filter) (mach-filter (d .setup .figures .filter) ∷ []) × Unit {0}))))
   unfolding mach mach-cell mach-temperature mach-linearity mach-system mach-filter
   five-is = LL.owed F.the-type F′.the-laws (d .setup .figures) _ (LL.owed U.the-type U′.the-laws (d .setup) _ (LL.owed D.the-type D′.the-laws d _ is .0) .0)
 
@@ -194,4 +196,8 @@ module _ (d : Device) (is : IsDevice d) where
       let o = LL.owed F.the-type F′.the-laws (d .setup .figures) _ (LL.owed U.the-type U′.the-laws (d .setup) _ (LL.owed D.the-type D′.the-laws d _ is .0) .0) in
       let m = LL.owed Y.the-type Y′.the-laws (d .setup .figures .system) _ system-is in
       let y = LL.owes Y.the-type Y′.the-laws (withZero (d .setup .figures) z .system) (m .0, (m .1 .0, (m .1 .1 .0, (m .1 .1 .1 .0, (subst (Is i64 z) (sint-tells w64 z _ z-is) z-is, tt))))) in
-      LL.owes D.the-type D′.the-laws (rezero d z) (LL.owes U.the-type U′.the-laws (record { figures = withZero (d .setup .figures) z; station = d .setup .station }) (LL.owes F.the-type F′.the-laws (withZero (d .setup .figures) z) (o .0, (o .1 .0, (o .1 .1 .0, (y, (o .1 .1 .1 .1 .0, tt))))), ((refl, station-fits), tt)), (LL.owed D.the-type D′.the-laws d _ is .1 .0, tt))
+      LL.owes D.the-type D′.the-laws (rezero d z) (
+        LL.owes U.the-type U′.the-laws (record { figures = withZero (d .setup .figures) z; station = d .setup .station })
+            (LL.owes F.the-type F′.the-laws (withZero (d .setup .figures) z) (o .0, (o .1 .0, (o .1 .1 .0, (y, (o .1 .1 .1 .1 .0, tt))))), ((refl, station-fits), tt)),
+        (LL.owed D.the-type D′.the-laws d _ is .1 .0, tt),
+      )

@@ -23,7 +23,8 @@ use Rattle.converter.proofs.answer.Met as answer-thm
 use Rattle.converter.proofs.refuse as refuse-of
 use Rattle.converter.proofs.refuse.Symbol as refuse-def
 use Rattle.converter.proofs.refuse.Met as refuse-thm
-use Rattle.board.proofs.Walk.{refl, sym, ap, subst, ℕ, _<_, _^_, [], _∷_, List, length, URA, named, w8, w64, Val, vint, vptr, SProp, ent, GName, Lft, Share, ftrue, flft, fobs, fbor, Memory, Routine, Heap, Atoms, Fun, Given, Item, ‵, _⊛_, ⋆, _$_, _∵_, !, qed, move, drop, split, join, fjoin, fjoin3, feqI, frame, done, Body, Is, mem, uint-makes, sint-makes, u8, usize, i64, RefT, sliceVal, MutSlice, ShrSlice, owned, nothing, Bound, says, only, tyUnit, T, hasTy, WT}
+use Rattle.board.proofs.Walk.{refl, sym, ap, subst, ℕ, _<_, _^_, [], _∷_, List, length, URA, named, w8, w64, Val, vint, vptr, SProp, ent, GName, Lft, Share, ftrue, flft, fobs, fbor, Memory, Routine, Heap, Atoms, Fun, Given, Item, ‵, _⊛_, ⋆, _$_, _∵_, !, qed, move, drop, split, join}
+use Rattle.board.proofs.Walk.{fjoin, fjoin3, feqI, frame, done, Body, Is, mem, uint-makes, sint-makes, u8, usize, i64, RefT, sliceVal, MutSlice, ShrSlice, owned, nothing, Bound, says, only, tyUnit, T, hasTy, WT}
 use Rattle.board.proofs.Kept.{mach-state, IsDevice, number, state-is, sz-is}
 use Rattle.board.proofs.Call.{Callee, triple}
 use Rattle.board.proofs.obey as obey-of

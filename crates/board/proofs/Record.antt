@@ -48,7 +48,8 @@ use Rattle.converter.specs.declared.Device.{Device}
 use Rattle.converter.proofs.Device as D
 use Rattle.converter.proofs.Device.Laws as D′
 use Rattle.board.proofs.Field.{IsStruct, sub-in}
-use Rattle.board.proofs.Kept.{mach, mach-figures, mach-cell, mach-temperature, mach-linearity, mach-system, mach-filter, mach-state, mach-readings, IsDevice, parts, five, three-are, mach-is, mach-five, number, zeroed, rezero, rezero-is, restate, tells, state-tells, state-typed, state-is, five-is, readings-is, sz-is, station-fits}
+use Rattle.board.proofs.Kept.{mach, mach-figures, mach-cell, mach-temperature, mach-linearity, mach-system, mach-filter, mach-state, mach-readings, IsDevice, parts, five, three-are, mach-is, mach-five, number, zeroed, rezero, rezero-is, restate, tells, state-tells, state-typed, state-is}
+use Rattle.board.proofs.Kept.{five-is, readings-is, sz-is, station-fits}
 
 -- the record's cell, and what opens it
 abbrev pub held : ℕ → ℕ → Device → Fml
@@ -125,7 +126,8 @@ module _ {M : Type 1} {𝓤 : URA M} {H : Heap 𝓤} {A : Atoms 𝓤} {K : Type 
   setup-part : K → (f : Val) (n : ℕ) (s : Val) → Part K W (‵ (fat fullShare D′.mir b o (vstruct (parts f n s)))) fullShare U′.mir b (o + 0) (vstruct (vcons f (vcons (vint w8 n) vnil))) (λ u. ‵ (fat fullShare D′.mir b o (vstruct (vcons u (vcons s vnil)))))
   setup-part t f n s = sub-in t D′.mir device-struct 0 U′.mir 0 setup-at (whole t)
 
-  figure-part : K → (k : ℕ) (τ : Ty) (e : ℕ) → fieldOf F′.mir k ≡ some (τ, e) → (vs : Vals) (n : ℕ) (s : Val) → Part K W (‵ (fat fullShare D′.mir b o (vstruct (parts (vstruct vs) n s)))) fullShare τ b (o + 0 + 0 + e) (getV vs k) (λ u. ‵ (fat fullShare D′.mir b o (vstruct (parts (vstruct (setV vs k u)) n s))))
+  figure-part : K → (k : ℕ) (τ : Ty) (e : ℕ) → fieldOf F′.mir k ≡ some (τ, e) → (vs : Vals) (n : ℕ) (s : Val)
+      → Part K W (‵ (fat fullShare D′.mir b o (vstruct (parts (vstruct vs) n s)))) fullShare τ b (o + 0 + 0 + e) (getV vs k) (λ u. ‵ (fat fullShare D′.mir b o (vstruct (parts (vstruct (setV vs k u)) n s))))
   figure-part t k τ e at vs n s = sub-in t F′.mir figures-struct k τ e at (sub-in t U′.mir setup-struct 0 F′.mir 0 figures-at (setup-part t (vstruct vs) n s))
 
   state-part : K → (f : Val) (n : ℕ) (s : Val) → Part K W (‵ (fat fullShare D′.mir b o (vstruct (parts f n s)))) fullShare S′.mir b (o + 344) s (λ u. ‵ (fat fullShare D′.mir b o (vstruct (parts f n u))))

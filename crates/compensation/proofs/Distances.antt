@@ -1,9 +1,9 @@
 -- The distances in their second form, from the numbers of the first: what `Faithful` says is all that is used of them, so that a
 -- larger number there is too weak here. Assumes nothing.
 use mathlib.Core.Logic.{_↔_}
-use Prim.Native.Nat.{ℕ, _*_}
+use Prim.Native.Nat.{ℕ}
 use native.Mathlib.Omega.{arith}
-use lib.IntN.{ℤ, pos, negsuc, natAbs, _-ℤ_, _*ℤ_}
+use lib.IntN.{ℤ, pos, negsuc}
 use lib.Signed.{_<ℤ_, clashℤ}
 use Rattle.integers.proofs.Difference.{⟨_⟩, nat, _⊕_, _⊝_, _⊗_, le!, lt!, lt?, abs-above, abs-below}
 use Rattle.integers.proofs.Order.{<-≤}

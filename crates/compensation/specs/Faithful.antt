@@ -1,8 +1,8 @@
 -- How far a reading may stray from the exact value, and where its flags are right (demand 3, for one reading): the statement of
 -- the theorem `faithful` (proofs/Faithful.antt).
 use mathlib.Core.Logic.{_↔_}
-use Prim.Native.Nat.{ℕ, _*_, _≤_, _<_}
-use lib.IntN.{ℤ, pos, natAbs, _-ℤ_, _*ℤ_}
+use Prim.Native.Nat.{ℕ, _*_, _<_}
+use lib.IntN.{ℤ, natAbs, _-ℤ_, _*ℤ_}
 use lib.Signed.{_<ℤ_}
 use mathlib.Core.Path.{_≡_}
 use Rattle.integers.specs.Within.{_within_}

@@ -56,7 +56,8 @@ pub record Example (d : Device) : Type 0 where
   pub sz : d .setup .figures .system .sz ≡ pos 655360
 
 pub example : Example (run start calls)
-unfolding roundDiv floorDiv between interpolated defaultSheet temperatures linearities hold filtered scaled yAt rawCellAt crawAt cellAt rawSystemAt srawAt sysAt bitAt statOf cellValuesAt valuesFrom valuesAt zeroFits nearestStep zeroSteps ofBits shifted shifts taken accessOf checked toUs forUs accessAsked writeOf writeAsked judged outside badReading larger smaller peakAfter trofAfter joined reading.takenWith reading.taken zeroBy fresh snapped acted written stateBy
+unfolding roundDiv floorDiv between interpolated defaultSheet temperatures linearities hold filtered scaled yAt rawCellAt crawAt cellAt rawSystemAt srawAt sysAt bitAt statOf cellValuesAt valuesFrom valuesAt zeroFits nearestStep
+    zeroSteps ofBits shifted shifts taken accessOf checked toUs forUs accessAsked writeOf writeAsked judged outside badReading larger smaller peakAfter trofAfter joined reading.takenWith reading.taken zeroBy fresh snapped acted written stateBy
 example = record {
   reached = record { sheet = sheetBytes defaultSheet; station = 52; accepted = ap (λ (r : Outcome). r .number) default-made; calls = calls; is = sym (ap (λ (r : Outcome). run (r .device) calls) default-made) };
   reading = refl;

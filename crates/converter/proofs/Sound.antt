@@ -2,7 +2,6 @@
 -- entries need no more of a device. Assumes nothing.
 use mathlib.Core.Path.{_≡_, refl}
 use mathlib.Core.Bool.{Bool, true, false, not, _||_}
-use mathlib.Core.List.{List, [], _∷_}
 use Prim.Native.Nat.{ℕ, _≤_}
 use native.Mathlib.Omega.{arith}
 use lib.Dec.{eqb, ltb, lit≤}
@@ -32,7 +31,7 @@ use Rattle.state.specs.declared.Readings.{Readings}
 use Rattle.state.specs.declared.State.{State}
 use Rattle.converter.specs.declared.Device.{Device}
 use Rattle.converter.specs.Making.{started}
-use Rattle.converter.specs.Call.{Call, reading, frame, report, read, step, run}
+use Rattle.converter.specs.Call.{Call, reading, frame, report, read, step}
 
 pub record ReadingsSound (r : Readings) : Type 0 where
   pub held-in : (r .elec) within elecMost
@@ -110,7 +109,8 @@ unfolding taken takenWith
 read-sound d elec temp integrity h e = record {
   acceptable = h .acceptable;
   state-ok = record {
-    readings-ok = join-sound (d .setup .figures) (d .state .readings) _ temp integrity (h .acceptable) (h .state-ok .readings-ok) (held-within (d .setup .figures) (d .state .readings) elec (h .acceptable) (h .state-ok .readings-ok .held-in) (good-elec elec temp integrity e)) (good-temp elec temp integrity e);
+    readings-ok = join-sound (d .setup .figures) (d .state .readings) _ temp integrity (h .acceptable) (h .state-ok .readings-ok)
+        (held-within (d .setup .figures) (d .state .readings) elec (h .acceptable) (h .state-ok .readings-ok .held-in) (good-elec elec temp integrity e)) (good-temp elec temp integrity e);
     sysn-in = h .state-ok .sysn-in;
   };
 }
@@ -194,7 +194,3 @@ step-sound d (frame bytes room) h =
     let f : Frame = judged bytes room (d .setup .station) in
     record { acceptable = setup-sound (d .setup) f (h .acceptable); state-ok = state-sound (d .state) f (h .state-ok) }
 step-sound d report h = h
-
-pub run-sound : (d : Device) (cs : List Call) → Sound d → Sound (run d cs)
-run-sound d [] h = h
-run-sound d (c ∷ cs) h = run-sound (step d c) cs (step-sound d c h)

@@ -57,7 +57,24 @@ in-range a k (suc n) i t r l h ne =
 -- from 105 on nothing is listed
 pub beyond : (r : ℕ) → 105 ≤ r → Unlisted ≡ accessOf r
 unfolding accessOf
-beyond r h = simp (no 6 (omega arith), no 9 (omega arith), no 10 (omega arith), no 11 (omega arith), no 12 (omega arith), no 13 (omega arith), no 14 (omega arith), no 15 (omega arith), no 16 (omega arith), no 22 (omega arith), no 23 (omega arith), no 24 (omega arith), no 25 (omega arith), no 100 (omega arith), no 103 (omega arith), no 104 (omega arith))
+beyond r h = simp (
+  no 6 (omega arith),
+  no 9 (omega arith),
+  no 10 (omega arith),
+  no 11 (omega arith),
+  no 12 (omega arith),
+  no 13 (omega arith),
+  no 14 (omega arith),
+  no 15 (omega arith),
+  no 16 (omega arith),
+  no 22 (omega arith),
+  no 23 (omega arith),
+  no 24 (omega arith),
+  no 25 (omega arith),
+  no 100 (omega arith),
+  no 103 (omega arith),
+  no 104 (omega arith),
+)
   where
     no : (k : ℕ) → k < 105 → eqb r k ≡ false
     no k l = ne-eqb r k (λ e. omega arith)

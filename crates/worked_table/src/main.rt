@@ -1,6 +1,5 @@
 // Prints 001's worked temperature table (its chapter 6), interpolated: for some temperatures in °C the offset o, in steps, and
 // the gain adjustment g, in 1/2^28.
-ghost use mathlib.Core.Path.{_≡_};
 ghost use Rattle.integers.specs.Within.{_within_};
 use libc::STDOUT_FILENO;
 

@@ -1,5 +1,7 @@
--- `board::converter_frame` meets its contract: a walk of its MIR, by hand. The record's borrow is opened, and its station is read; a read is answered by its state and SZ. For any other frame the readings are tested: a frame that is obeyed takes the borrow, closed at the device as it was, to `obey` for good, and otherwise it is given up at this device (`gave-ref`). The frame goes to each call at its own lifetime, the reply to one of three for good (`gave-slice`).
--- All that the proof knows of the seven functions that are called is that they meet their contracts. Assumes nothing.
+-- `board::converter_frame` meets its contract: a walk of its MIR, by hand. The record's borrow is opened; a read is answered by its
+-- state and SZ; a frame that is obeyed takes the borrow, closed at the device as it was, to `obey` for good; otherwise it is given up
+-- at this device (`gave-ref`). The frame goes to each call at its own lifetime, the reply to one of three for good (`gave-slice`).
+-- All that is known of the seven functions that are called is that they meet their contracts. Assumes nothing.
 use denote.Struct.Laws as LL
 use Rattle.modbus.specs.Frame.{judged}
 use Rattle.modbus.specs.declared.frame.Frame.{Frame}
@@ -18,7 +20,10 @@ use Rattle.converter.proofs.Entries.{unobeyed, read-unobeyed, serves}
 use Rattle.converter.proofs.Device as D
 use Rattle.converter.proofs.bus.Answered as B
 use Rattle.converter.proofs.bus.Answered.Laws as B′
-use Rattle.board.proofs.Walk.{none, some, _≡_, refl, sym, ℕ, [], _∷_, List, length, URA, named, Val, vptr, SProp, ent, id⊢, GName, Lft, Share, ftrue, flft, fres, Memory, Routine, Heap, Calls, Loops, WpFn, Atoms, Fun, givenOf, Given, Item, group, ‵, _⊛_, ⋆, _$_, _∵_, !, qed, by, move, keep, drop, use1, split, join, fsplit, fsplit3, fjoin, feqL, suffices, frame, done, look, init, stop, hop, fld, from, load, addr, of-opd, and-then, no-more, assigns, first, returns, returns-within, enter, alloc1, alloc0, params1, pass1, pass0, agg, whole, sub, look-in, FmC, owns, Is, mem, u8, RefT, MutRef, ptr-vals, mut-tells, slice-vals, MutSlice, ShrSlice, Room, finally, mut-slice-tells, shr-slice-tells, shr-slice-copy, plain, shrSliceOf, owned, nothing, onEntry, gave-ref, goes-gave-ref, says, needs, Stays, stay-dropped, gave-slice, walkOf, AllGo, goes-dropped, goes-gave-slice, Walks, ends-at, walked, yes}
+use Rattle.board.proofs.Walk.{none, some, _≡_, refl, sym, ℕ, [], _∷_, List, length, URA, named, Val, vptr, SProp, ent, id⊢, GName, Lft, Share, ftrue, flft, fres, Memory, Routine, Heap, Calls, Loops, WpFn, Atoms, Fun, givenOf, Given, Item, group, ‵, _⊛_, ⋆, _$_, _∵_, !, qed, by, move}
+use Rattle.board.proofs.Walk.{keep, drop, use1, split, join, fsplit, fsplit3, fjoin, feqL, suffices, frame, done, look, init, stop, hop, fld, from, load, addr, of-opd, and-then, no-more, assigns, first, returns, returns-within, enter, alloc1, alloc0, params1, pass1, pass0, agg, whole}
+use Rattle.board.proofs.Walk.{sub, look-in, FmC, owns, Is, mem, u8, RefT, MutRef, ptr-vals, mut-tells, slice-vals, MutSlice, ShrSlice, Room, finally, mut-slice-tells, shr-slice-tells, shr-slice-copy, plain, shrSliceOf, owned, nothing, onEntry, gave-ref, goes-gave-ref, says, needs, Stays}
+use Rattle.board.proofs.Walk.{stay-dropped, gave-slice, walkOf, AllGo, goes-dropped, goes-gave-slice, Walks, ends-at, walked, yes}
 use Rattle.board.proofs.Call.{Callee, AllKnown, calls-out, calls-plain, local}
 use Rattle.board.proofs.Callees.{is-read, is-obeyed}
 use Rattle.board.proofs.Lent.{slice, bytes, judge, to-judge, judge-asks, answer, to-answer, answer-asks, acknowledge, to-acknowledge, acknowledge-asks, refuse, to-refuse, refuse-asks, obey, to-obey, obey-asks}
@@ -40,10 +45,8 @@ stayed = (gave-ref (0 ∷ []) tt (plain (λ _. D.the-row)), (stay-dropped (shrSl
 abbrev callees : List Callee
 callees = judge ∷ is-read .callee ∷ answer ∷ is-obeyed .callee ∷ obey ∷ acknowledge ∷ refuse ∷ []
 
-module _ {M : Type 1} (𝓤 : URA M) (H : Heap 𝓤) (A : Atoms 𝓤) (W : Given 𝓤 H A) (at-mem : Memory → SProp 𝓤) (run : Routine → Fun 𝓤) (κ κ₁ κ₂ : Lft) (q q₁ q₂ : Share) (b o : ℕ) (γ : GName) (h : Device) (xf xr : RefT (List ℕ)) (room-f : Room u8 (length (xf .now))) (room-r : Room u8 (length (xr .now))) (reached : Reached h) where
-  abbrev room : ℕ
-  room = length (xr .now)
-
+module _ {M : Type 1} (𝓤 : URA M) (H : Heap 𝓤) (A : Atoms 𝓤) (W : Given 𝓤 H A) (at-mem : Memory → SProp 𝓤) (run : Routine → Fun 𝓤) (κ κ₁ κ₂ : Lft) (q q₁ q₂ : Share) (b o : ℕ) (γ : GName) (h : Device) (xf xr : RefT (List ℕ))
+    (room-f : Room u8 (length (xf .now))) (room-r : Room u8 (length (xr .now))) (reached : Reached h) where
   abbrev x : RefT Device × (RefT (List ℕ) × (RefT (List ℕ) × Unit {0}))
   x = (record { ptr = (b, o); name = γ; now = h }, (xf, (xr, tt)))
 
@@ -56,18 +59,17 @@ module _ {M : Type 1} (𝓤 : URA M) (H : Heap 𝓤) (A : Atoms 𝓤) (W : Given
   abbrev Post : Val → SProp 𝓤
   Post = walkOf 𝓤 H A f.ended stayed (f.clauses 𝓤 H A at-mem run) .post (((κ, (κ₁, (κ₂, tt))), (q, (q₁, (q₂, tt))), tt, x, at), tt)
 
-  exits : (r : Answered) (v : Val) (d : Device) (zs : List ℕ) → Is B.the-row r (v ∷ []) → Serving h (xf .now) (xr .now) zs (record { number = r .number; length = r .length; device = d }) → length zs ≡ room
+  exits : (r : Answered) (v : Val) (d : Device) (zs : List ℕ) → Is B.the-row r (v ∷ []) → Serving h (xf .now) (xr .now) zs (record { number = r .number; length = r .length; device = d }) → length zs ≡ length (xr .now)
       → ent 𝓤 (⋆ 𝓤 H A (‵ (fres γ (D.the-row .coded .code d)) ∷ (‵ (flft κ q) ⊛ ‵ ftrue) ∷ toks ∷ ‵ (finally u8 (xr .name) zs) ∷ [])) (Post v)
   exits r v d zs is e l =
       qed W (‵ (fres γ (D.the-row .coded .code d)) ∷ (‵ (flft κ q) ⊛ ‵ ftrue) ∷ toks ∷ ‵ (finally u8 (xr .name) zs) ∷ []) ∵
       suffices ! _ (ends-at 𝓤 H A f.ended stayed (f.clauses 𝓤 H A at-mem run) W (((κ, (κ₁, (κ₂, tt))), (q, (q₁, (q₂, tt))), tt, x, at), tt) v r (d, (tt, (zs, tt))) (tt, (tt, (l, tt)))) $
       says ! e $ move ! (1 ∷ []) $ split ! $ move ! (0 ∷ 3 ∷ []) $ join ! $ frame ! $ drop ! $
-      -- [the record's last value; the reply's]
       nothing ! $ move ! (2 ∷ 0 ∷ []) $ fjoin ! $ nothing ! $ fjoin ! $ move ! (1 ∷ 0 ∷ []) $ fjoin ! $
       owned ! B.the-row (Is B.the-row) (LL.makes B.the-type B′.the-plain 𝓤 H A) r (v ∷ []) is $ move ! (1 ∷ 0 ∷ []) $ done !
 
   -- the calls together keep the contract, by the answer that the frame is due
-  served : (a : Frame) (r : Answered) (zs : List ℕ) {d : Device} {x : Answer} → a ≡ judged (xf .now) room (h .setup .station) → answered (h .state) (h .setup .figures .system .sz) a ≡ x → Answering x (xf .now) (xr .now) zs r → d ≡ obeyed h a
+  served : (a : Frame) (r : Answered) (zs : List ℕ) {d : Device} {x : Answer} → a ≡ judged (xf .now) (length (xr .now)) (h .setup .station) → answered (h .state) (h .setup .figures .system .sz) a ≡ x → Answering x (xf .now) (xr .now) zs r → d ≡ obeyed h a
       → Serving h (xf .now) (xr .now) zs (record { number = r .number; length = r .length; device = d })
   served a r zs asked due replies obeys = rw obeys (serves reached (xf .now) (xr .now) zs asked (rw due replies) refl refl)
 
@@ -75,7 +77,8 @@ module _ {M : Type 1} (𝓤 : URA M) (H : Heap 𝓤) (A : Atoms 𝓤) (W : Given
     walk : ent 𝓤 (onEntry 𝓤 H A f.signature (κ, (κ₁, (κ₂, tt))) (q, (q₁, (q₂, tt))) x at) (WpFn 𝓤 H C Λ code.function (vptr b o ∷ slice xf ∷ slice xr ∷ []) Post)
     walk =
         qed W ((‵ (flft κ q) ⊛ toks) ∷ ‵ (owns (MutRef (named 0) κ D.the-row ∷ ShrSlice (named 1) κ₁ u8 ∷ MutSlice (named 2) κ₂ u8 ∷ []) x at) ∷ []) ∵ enter ! C Λ code.function (vptr b o ∷ slice xf ∷ slice xr ∷ []) _ $
-        alloc1 ! {τ = B′.mir} (λ l₀. alloc1 ! (λ l₁. alloc1 ! (λ l₂. alloc1 ! (λ l₃. alloc1 ! {τ = R′.mir} (λ l₄. alloc1 ! (λ l₅. alloc1 ! (λ l₆. alloc1 ! (λ l₇. alloc1 ! {τ = S′.mir} (λ l₈. alloc1 ! (λ l₉. alloc1 ! (λ l₁₀. alloc1 ! (λ l₁₁. alloc1 ! (λ l₁₂. alloc1 ! {τ = G′.mir} (λ l₁₃. alloc1 ! (λ l₁₄. alloc1 ! (λ l₁₅. alloc1 ! (λ l₁₆. alloc1 ! (λ l₁₇. alloc1 ! (λ l₁₈. alloc1 ! (λ l₁₉. alloc0 ! $ params1 ! $
+        alloc1 ! {τ = B′.mir} (λ l₀. alloc1 ! (λ l₁. alloc1 ! (λ l₂. alloc1 ! (λ l₃. alloc1 ! {τ = R′.mir} (λ l₄. alloc1 ! (λ l₅. alloc1 ! (λ l₆. alloc1 ! (λ l₇. alloc1 ! {τ = S′.mir} (λ l₈. alloc1 ! (λ l₉. alloc1 ! (λ l₁₀. alloc1 ! (λ l₁₁. alloc1 !
+        (λ l₁₂. alloc1 ! {τ = G′.mir} (λ l₁₃. alloc1 ! (λ l₁₄. alloc1 ! (λ l₁₅. alloc1 ! (λ l₁₆. alloc1 ! (λ l₁₇. alloc1 ! (λ l₁₈. alloc1 ! (λ l₁₉. alloc0 ! $ params1 ! $
         pass1 ! (init ! 36 refl (tt, tt)) $ pass1 ! (init ! 34 refl (tt, (tt, (record { fits = room-f .0 }, tt)))) $ pass1 ! (init ! 32 refl (tt, (tt, (record { fits = room-r .0 }, tt)))) $ pass0 ! $
         move ! (41 ∷ []) $ fsplit ! $ move ! (1 ∷ []) $ fsplit ! $ move ! (1 ∷ []) $ fsplit ! $ move ! (3 ∷ []) $ fsplit3 ! $ drop ! $ move ! (45 ∷ []) $ split ! $ move ! (2 ∷ 3 ∷ 0 ∷ []) $
         -- [obs; the borrow; its token; the other tokens; the reply; true; the frame; _19; …; room for _0; …]
@@ -84,16 +87,16 @@ module _ {M : Type 1} (𝓤 : URA M) (H : Heap 𝓤) (A : Atoms 𝓤) (W : Given
         assigns ! (of-opd ! (load ! (from ! (fld ! refl (stop !))) (look-in ! 40 (sub ! 1 refl (whole !))))) (from ! (stop !)) (init ! 36 refl (tt, record { fits = room-r .0 })) $
         copies ! 0 refl (station-in h ! was) (look ! 44 refl) (init ! 34 refl) $ move ! (4 ∷ []) $ split ! $ move ! (8 ∷ []) $ use1 W (bytes 𝓤 κ₁ xf ⊛ bytes 𝓤 κ₁ xf) (shr-slice-copy 𝓤 H A W (named 0) κ₁ u8 .twice xf (slice xf ∷ [])) $ split ! $ move ! (2 ∷ 0 ∷ []) $ join ! $
         -- [the token and a copy of the frame; the frame; the reply's token; the record's cell; the open borrow; obs; auth; the reply; true; _19; …]
-        calls-out ! fm judge (known-of .0) (to-judge 𝓤 H A κ₁ q₁ xf room (h .setup .station)) tt (judge-asks 𝓤 H A W at-mem run κ₁ q₁ xf room (h .setup .station) (room-r .0) (station-fits h was)) (λ a _. a ≡ judged (xf .now) room (h .setup .station)) (λ a _. id⊢ 𝓤 _)
-        (local ! 43 refl (local ! 37 refl (local ! 35 refl (no-more !)))) 38 refl refl (λ va a _ asked a-is. drop ! $
+        calls-out ! fm judge (known-of .0) (to-judge 𝓤 H A κ₁ q₁ xf (length (xr .now)) (h .setup .station)) tt (judge-asks 𝓤 H A W at-mem run κ₁ q₁ xf (length (xr .now)) (h .setup .station) (room-r .0) (station-fits h was))
+        (λ a _. a ≡ judged (xf .now) (length (xr .now)) (h .setup .station)) (λ a _. id⊢ 𝓤 _) (local ! 43 refl (local ! 37 refl (local ! 35 refl (no-more !)))) 38 refl refl (λ va a _ asked a-is. drop ! $
         calls-plain ! fm is-read (known-of .1 .0) (tt, tt, tt, (a, tt), (va ∷ [], tt)) tt (id⊢ 𝓤 _) (a-is, tt) (id⊢ 𝓤 _) (λ c. c ≡ isRead a) (λ c e. id⊢ 𝓤 _) (local ! 40 refl (no-more !)) 33 refl refl (λ vc c reads c-is. first ! $ branches-on ! (look ! 33 refl) c-is reads
         (λ read. copies ! 3 refl (state-in h ! was) (look ! 45 refl) (init ! 31 refl) $ copies ! 3 refl (sz-in h ! was) (look ! 45 refl) (init ! 29 refl) $
         assigns ! (addr ! (from ! (fld ! refl (hop ! (look-in ! 41 (sub ! 0 refl (whole !))) (stop !))))) (from ! (stop !)) (init ! 27 refl (tt, tt)) $
         assigns ! (agg ! (and-then ! (load ! (from ! (stop !)) (look ! 27 refl)) (and-then ! (load ! (from ! (fld ! refl (stop !))) (look-in ! 41 (sub ! 1 refl (whole !)))) (no-more !)))) (from ! (stop !)) (init ! 25 refl (tt, (tt, (record { fits = room-r .0 }, tt)))) $
         move ! (0 ∷ 2 ∷ []) $ join ! $ move ! (0 ∷ 1 ∷ 6 ∷ []) $ group ! 3 $
         -- [what `answer` asks; the record's cell; the open borrow; obs; auth; true; _19; …]
-        calls-out ! fm answer (known-of .1 .1 .0) (to-answer 𝓤 H A κ₁ κ₂ q₁ q₂ xf xr h a va) tt (answer-asks 𝓤 H A W at-mem run κ₁ κ₂ q₁ q₂ xf xr h a va reached was a-is) (λ r zs. Answering (answered (h .state) (h .setup .figures .system .sz) a) (xf .now) (xr .now) (zs .1 .1 .1 .1 .0) r) (λ r zs. id⊢ 𝓤 _)
-        (local ! 28 refl (local ! 26 refl (local ! 36 refl (local ! 40 refl (local ! 22 refl (no-more !)))))) 43 refl refl (λ w r zs e r-is.
+        calls-out ! fm answer (known-of .1 .1 .0) (to-answer 𝓤 H A κ₁ κ₂ q₁ q₂ xf xr h a va) tt (answer-asks 𝓤 H A W at-mem run κ₁ κ₂ q₁ q₂ xf xr h a va reached was a-is)
+        (λ r zs. Answering (answered (h .state) (h .setup .figures .system .sz) a) (xf .now) (xr .now) (zs .1 .1 .1 .1 .0) r) (λ r zs. id⊢ 𝓤 _) (local ! 28 refl (local ! 26 refl (local ! 36 refl (local ! 40 refl (local ! 22 refl (no-more !)))))) 43 refl refl (λ w r zs e r-is.
         -- of the last values only the reply's says anything: its list, and that it is as long as the one lent
         fsplit ! $ drop ! $ fsplit ! $ drop ! $ fsplit ! $ drop ! $ fsplit ! $ drop ! $ fsplit ! $ fsplit ! $ move ! (1 ∷ []) $ feqL ! (λ l. move ! (2 ∷ []) $
         -- [the other tokens; the last list; true; the record's cell; the open borrow; obs; auth; true; _19; …]
@@ -132,7 +135,8 @@ module _ {M : Type 1} (𝓤 : URA M) (H : Heap 𝓤) (A : Atoms 𝓤) (W : Given
   walks : (C : Calls 𝓤 H) (Λ : Loops 𝓤 H) → FmC 𝓤 H (W .laws) C → AllKnown 𝓤 H A mem run C callees → Walks 𝓤 H A f.ended stayed (WpFn 𝓤 H C Λ code.function) (f.clauses 𝓤 H A mem run)
   walks C Λ fm known-of = walked 𝓤 H A f.ended stayed (f.clauses 𝓤 H A mem run) (WpFn 𝓤 H C Λ code.function)
       (λ κs. (ptr-vals, (slice-vals, (slice-vals, tt)))) (λ κs. (mut-tells (named 0) (κs .0) D.the-row, (shr-slice-tells (named 1) (κs .1 .0) u8, (mut-slice-tells (named 2) (κs .1 .1 .0) u8, tt))))
-      (λ κs qs bounds a _ are. needs 𝓤 (Reached (a .0 .now)) _ (λ reached. walk 𝓤 H A W mem run (κs .0) (κs .1 .0) (κs .1 .1 .0) (qs .0) (qs .1 .0) (qs .1 .1 .0) (a .0 .ptr .0) (a .0 .ptr .1) (a .0 .name) (a .0 .now) (a .1 .0) (a .1 .1 .0) (are .1 .0 .0 .1) (are .1 .1 .0 .0 .1) reached C Λ fm known-of))
+      (λ κs qs bounds a _ are. needs 𝓤 (Reached (a .0 .now)) _
+      (λ reached. walk 𝓤 H A W mem run (κs .0) (κs .1 .0) (κs .1 .1 .0) (qs .0) (qs .1 .0) (qs .1 .1 .0) (a .0 .ptr .0) (a .0 .ptr .1) (a .0 .name) (a .0 .now) (a .1 .0) (a .1 .1 .0) (are .1 .0 .0 .1) (are .1 .1 .0 .0 .1) reached C Λ fm known-of))
 
   goes : AllGo 𝓤 H A W 3 (f.signature .params) (f.ended .kept) stayed
   goes = (goes-gave-ref 𝓤 H A W 3 0 tt (plain (λ _. D.the-row)), (goes-dropped 𝓤 H A W 3 (shrSliceOf (1 ∷ []) tt (plain (λ _. u8))) yes (λ κs x f. refl), (goes-gave-slice 𝓤 H A W 3 2 tt (plain (λ _. u8)), tt)))
@@ -140,6 +144,6 @@ module _ {M : Type 1} (𝓤 : URA M) (H : Heap 𝓤) (A : Atoms 𝓤) (W : Given
 pub converter-frame-spec : {M : Type 1} → stated.statement M
 unfolding code.routine
 converter-frame-spec 𝓤 H 𝓜 𝓖 𝓡 =
-    let W = givenOf 𝓤 H 𝓜 𝓖 in
-    walk-entered 𝓤 H 𝓜 𝓖 𝓡 code.env #board·converter-frame code.function (code.unfolded 𝓤 H 𝓜 𝓡) callees (code.calls-modbus·frame·judge, (code.calls-state·is-read, (code.calls-converter·answer, (code.calls-state·is-obeyed, (code.calls-board·obey, (code.calls-converter·acknowledge, (code.calls-converter·refuse, tt)))))))
-    f.ended (f.clauses 𝓤 H (𝓖 .A) (𝓜 .mem) (𝓡 .run)) stayed (goes 𝓤 H (𝓖 .A) W (𝓜 .mem) (𝓡 .run)) (walks 𝓤 H (𝓖 .A) W (𝓜 .mem) (𝓡 .run))
+    walk-entered 𝓤 H 𝓜 𝓖 𝓡 code.env #board·converter-frame code.function (code.unfolded 𝓤 H 𝓜 𝓡) callees
+    (code.calls-modbus·frame·judge, (code.calls-state·is-read, (code.calls-converter·answer, (code.calls-state·is-obeyed, (code.calls-board·obey, (code.calls-converter·acknowledge, (code.calls-converter·refuse, tt)))))))
+    f.ended (f.clauses 𝓤 H (𝓖 .A) (𝓜 .mem) (𝓡 .run)) stayed (goes 𝓤 H (𝓖 .A) (givenOf 𝓤 H 𝓜 𝓖) (𝓜 .mem) (𝓡 .run)) (walks 𝓤 H (𝓖 .A) (givenOf 𝓤 H 𝓜 𝓖) (𝓜 .mem) (𝓡 .run))

@@ -1,4 +1,6 @@
--- `board::converter_reading` meets its contract: a walk of its MIR, by hand. A bad reading is refused before the record is looked at. Otherwise the borrow is opened and stays open over the calls: each is handed the parts of the figures and of the state that it takes, the state that `take` gives is stored, and the borrow is closed at the device with it.
+-- `board::converter_reading` meets its contract: a walk of its MIR, by hand. A bad reading is refused before the record is
+-- looked at. Otherwise the borrow is opened and stays open over the calls: each is handed the parts of the figures and of the
+-- state that it takes, the state that `take` gives is stored, and the borrow is closed at the device with it.
 -- All that the proof knows of the six functions that are called is that they meet their contracts. Assumes nothing.
 use Rattle.figures.proofs.Cell.Laws as X′
 use Rattle.figures.proofs.Temperature.Laws as T′
@@ -18,7 +20,10 @@ use Rattle.converter.specs.declared.Device.{Device}
 use Rattle.converter.specs.declared.Outcome.{Outcome}
 use Rattle.converter.proofs.Entries.{refuses, filters, adjusts, corrects, scales, joins}
 use Rattle.converter.proofs.Device as D
-use Rattle.board.proofs.Walk.{none, some, _≡_, refl, ℕ, _<_, _^_, [], _∷_, List, lit<, ℤ, URA, named, w8, w64, Val, vint, vptr, ofZ, SProp, ent, sep, emp, id⊢, GName, Lft, Share, ftrue, flft, fobs, fbor, Memory, Routine, Heap, Calls, Loops, WpFn, Atoms, Fun, factI, givenOf, Given, ‵, _⊛_, _$_, _∵_, !, qed, by, move, keep, drop, split, join, fsplit, fsplit3, fjoin, fjoin3, feqI, suffices, frame, done, look, init, stop, hop, fld, from, load, lit, of-opd, no-more, assigns, first, returns, returns-within, enter, alloc1, alloc0, params1, pass1, pass0, store, Body, FmC, owns, Is, mem, uint-vals, uint-tells, uint-makes, sint-vals, sint-tells, sint-makes, sint-lawful, u8, i64, RefT, MutRef, ptr-vals, mut-tells, plain, owned, nothing, onEntry, says, needs, Stays, stay-ref, stay-none, walkOf, AllGo, goes-none, goes-ref, Walks, ends-at, walked, yes}
+use Rattle.board.proofs.Walk.{none, some, _≡_, refl, ℕ, _<_, _^_, [], _∷_, List, lit<, ℤ, URA, named, w8, w64, Val, vint, vptr, ofZ, SProp, ent, sep, emp, id⊢, GName, Lft, Share, ftrue, flft, fobs, fbor, Memory, Routine, Heap, Calls, Loops, WpFn, Atoms, Fun, factI, givenOf, Given, ‵, _⊛_}
+use Rattle.board.proofs.Walk.{_$_, _∵_, !, qed, by, move, keep, drop, split, join, fsplit, fsplit3, fjoin, fjoin3, feqI, suffices, frame, done, look, init, stop, hop, fld, from, load, lit, of-opd, no-more, assigns, first, returns, returns-within, enter, alloc1, alloc0, params1, pass1}
+use Rattle.board.proofs.Walk.{pass0, store, Body, FmC, owns, Is, mem, uint-vals, uint-tells, uint-makes, sint-vals, sint-tells, sint-makes, sint-lawful, u8, i64, RefT, MutRef, ptr-vals, mut-tells, plain, owned, nothing, onEntry, says, needs, Stays, stay-ref, stay-none, walkOf, AllGo}
+use Rattle.board.proofs.Walk.{goes-none, goes-ref, Walks, ends-at, walked, yes}
 use Rattle.board.proofs.Call.{Callee, AllKnown, calls-plain, local}
 use Rattle.board.proofs.Callees.{bad-reading, held-after, input-at, cell-values, values-from, take}
 use Rattle.board.proofs.Branch.{branches-on, skips-to}
@@ -38,7 +43,8 @@ stayed = (stay-ref (0 ∷ []) tt (plain (λ _. D.the-row)), (stay-none (λ _. i6
 abbrev callees : List Callee
 callees = bad-reading .callee ∷ held-after .callee ∷ input-at .callee ∷ cell-values .callee ∷ values-from .callee ∷ take .callee ∷ []
 
-module _ {M : Type 1} (𝓤 : URA M) (H : Heap 𝓤) (A : Atoms 𝓤) (W : Given 𝓤 H A) (at-mem : Memory → SProp 𝓤) (run : Routine → Fun 𝓤) (κ : Lft) (q : Share) (b o : ℕ) (γ : GName) (h : Device) (z t : ℤ) (n : ℕ) (z-is : Is i64 z (vint w64 (ofZ w64 z) ∷ [])) (t-is : Is i64 t (vint w64 (ofZ w64 t) ∷ [])) (n-fits : n < 2 ^ 8) (reached : Reached h) where
+module _ {M : Type 1} (𝓤 : URA M) (H : Heap 𝓤) (A : Atoms 𝓤) (W : Given 𝓤 H A) (at-mem : Memory → SProp 𝓤) (run : Routine → Fun 𝓤) (κ : Lft) (q : Share) (b o : ℕ) (γ : GName) (h : Device) (z t : ℤ) (n : ℕ)
+    (z-is : Is i64 z (vint w64 (ofZ w64 z) ∷ [])) (t-is : Is i64 t (vint w64 (ofZ w64 t) ∷ [])) (n-fits : n < 2 ^ 8) (reached : Reached h) where
   abbrev x : RefT Device × (ℤ × (ℤ × (ℕ × Unit {0})))
   x = (record { ptr = (b, o); name = γ; now = h }, (z, (t, (n, tt))))
 
@@ -63,7 +69,8 @@ module _ {M : Type 1} (𝓤 : URA M) (H : Heap 𝓤) (A : Atoms 𝓤) (W : Given
     walk : ent 𝓤 (onEntry 𝓤 H A f.signature (κ, tt) (q, tt) x at) (WpFn 𝓤 H C Λ code.function (vptr b o ∷ vint w64 (ofZ w64 z) ∷ vint w64 (ofZ w64 t) ∷ vint w8 n ∷ []) Post)
     walk =
         qed W ((‵ (flft κ q) ⊛ ‵ ftrue) ∷ ‵ (owns (MutRef (named 0) κ D.the-row ∷ i64 ∷ i64 ∷ u8 ∷ []) x at) ∷ []) ∵ enter ! C Λ code.function (vptr b o ∷ vint w64 (ofZ w64 z) ∷ vint w64 (ofZ w64 t) ∷ vint w8 n ∷ []) _ $
-        alloc1 ! (λ l₀. alloc1 ! (λ l₁. alloc1 ! (λ l₂. alloc1 ! (λ l₃. alloc1 ! (λ l₄. alloc1 ! (λ l₅. alloc1 ! {τ = P′.mir} (λ l₆. alloc1 ! {τ = K′.mir} (λ l₇. alloc1 ! {τ = E′.mir} (λ l₈. alloc1 ! (λ l₉. alloc1 ! {τ = I′.mir} (λ l₁₀. alloc1 ! {τ = G′.mir} (λ l₁₁. alloc1 ! {τ = T′.mir} (λ l₁₂. alloc1 ! {τ = X′.mir} (λ l₁₃. alloc1 ! {τ = L′.mir} (λ l₁₄. alloc1 ! {τ = Y′.mir} (λ l₁₅. alloc1 ! {τ = S′.mir} (λ l₁₆. alloc1 ! {τ = S′.mir} (λ l₁₇. alloc0 ! $ params1 ! $
+        alloc1 ! (λ l₀. alloc1 ! (λ l₁. alloc1 ! (λ l₂. alloc1 ! (λ l₃. alloc1 ! (λ l₄. alloc1 ! (λ l₅. alloc1 ! {τ = P′.mir} (λ l₆. alloc1 ! {τ = K′.mir} (λ l₇. alloc1 ! {τ = E′.mir} (λ l₈. alloc1 ! (λ l₉. alloc1 ! {τ = I′.mir} (λ l₁₀. alloc1 ! {τ = G′.mir}
+        (λ l₁₁. alloc1 ! {τ = T′.mir} (λ l₁₂. alloc1 ! {τ = X′.mir} (λ l₁₃. alloc1 ! {τ = L′.mir} (λ l₁₄. alloc1 ! {τ = Y′.mir} (λ l₁₅. alloc1 ! {τ = S′.mir} (λ l₁₆. alloc1 ! {τ = S′.mir} (λ l₁₇. alloc0 ! $ params1 ! $
         pass1 ! (init ! 32 refl (tt, tt)) $ pass1 ! (init ! 30 refl (sint-lawful 𝓤 H A W w64 .typed z _ z-is .0)) $ pass1 ! (init ! 28 refl (sint-lawful 𝓤 H A W w64 .typed t _ t-is .0)) $ pass1 ! (init ! 26 refl (tt, record { fits = n-fits })) $ pass0 ! $
         move ! (37 ∷ []) $ fsplit ! $ fsplit3 ! $ drop ! $ move ! (2 ∷ []) $ drop ! $ move ! (38 ∷ []) $ split ! $ move ! (2 ∷ 3 ∷ 0 ∷ []) $
         -- [obs; the borrow; its token; true; _17; …; _1; …; room for _0; …]
@@ -87,7 +94,8 @@ module _ {M : Type 1} (𝓤 : URA M) (H : Heap 𝓤) (A : Atoms 𝓤) (W : Given
         (five-is h was .0, (five-is h was .1 .1 .0, (i-fits, tt))) (factI 𝓤 _ (emp 𝓤) (corrects reached z t n good k-is i-is)) (λ c. c ≡ cellValuesAt (h .setup .figures .cell) (h .setup .figures .linearity) i) (λ c e. id⊢ 𝓤 _)
         (local ! 14 refl (local ! 12 refl (local ! 28 refl (no-more !)))) 25 refl refl (λ vc c c-is c-fits.
         copies ! 0 refl (cell-in h ! was) (look ! 37 refl) (store ! 13 refl) $ copies ! 0 refl (system-in h ! was) (look ! 37 refl) (init ! 9 refl) $
-        calls-plain ! fm values-from (known-of .1 .1 .1 .1 .0) (tt, tt, tt, (h .setup .figures .cell, (h .setup .figures .system, (c, (k, (t, (n, tt)))))), (mach-cell (h .setup .figures .cell) ∷ [], (mach-system (h .setup .figures .system) ∷ [], (vc ∷ [], (vk ∷ [], (number t ∷ [], (vint w8 n ∷ [], tt))))))) tt (id⊢ 𝓤 _)
+        calls-plain ! fm values-from (known-of .1 .1 .1 .1 .0)
+        (tt, tt, tt, (h .setup .figures .cell, (h .setup .figures .system, (c, (k, (t, (n, tt)))))), (mach-cell (h .setup .figures .cell) ∷ [], (mach-system (h .setup .figures .system) ∷ [], (vc ∷ [], (vk ∷ [], (number t ∷ [], (vint w8 n ∷ [], tt))))))) tt (id⊢ 𝓤 _)
         (five-is h was .0, (five-is h was .1 .1 .1 .0, (c-fits, (k-fits, (t-is, ((refl, n-fits), tt)))))) (factI 𝓤 _ (emp 𝓤) (scales reached z t n good k-is i-is c-is)) (λ w. w ≡ valuesFrom (h .setup .figures .cell) (h .setup .figures .system) c k t n) (λ w e. id⊢ 𝓤 _)
         (local ! 14 refl (local ! 10 refl (local ! 26 refl (local ! 30 refl (local ! 34 refl (local ! 32 refl (no-more !))))))) 23 refl refl (λ vw w w-is w-fits.
         copies ! 0 refl (state-in h ! was) (look ! 37 refl) (init ! 5 refl) $
@@ -112,5 +120,6 @@ pub converter-reading-spec : {M : Type 1} → stated.statement M
 unfolding code.routine
 converter-reading-spec 𝓤 H 𝓜 𝓖 𝓡 =
     let W = givenOf 𝓤 H 𝓜 𝓖 in
-    walk-entered 𝓤 H 𝓜 𝓖 𝓡 code.env #board·converter-reading code.function (code.unfolded 𝓤 H 𝓜 𝓡) callees (code.calls-state·bad-reading, (code.calls-state·held-after, (code.calls-compensation·input-at, (code.calls-compensation·cell-values, (code.calls-compensation·values-from, (code.calls-state·take, tt))))))
+    walk-entered 𝓤 H 𝓜 𝓖 𝓡 code.env #board·converter-reading code.function (code.unfolded 𝓤 H 𝓜 𝓡) callees
+    (code.calls-state·bad-reading, (code.calls-state·held-after, (code.calls-compensation·input-at, (code.calls-compensation·cell-values, (code.calls-compensation·values-from, (code.calls-state·take, tt))))))
     f.ended (f.clauses 𝓤 H (𝓖 .A) (𝓜 .mem) (𝓡 .run)) stayed (goes 𝓤 H (𝓖 .A) W (𝓜 .mem) (𝓡 .run)) (walks 𝓤 H (𝓖 .A) W (𝓜 .mem) (𝓡 .run))

@@ -11,7 +11,9 @@ use Rattle.state.proofs.State.Laws as S′
 use Rattle.converter.specs.Call.{obeyed}
 use Rattle.converter.specs.declared.Device.{Device}
 use Rattle.converter.proofs.Device as D
-use Rattle.board.proofs.Walk.{none, some, _≡_, refl, sym, ℕ, [], _∷_, List, ℤ, URA, named, Val, vptr, vunit, SProp, ent, id⊢, emp, via, fst∗, sep, GName, Lft, Share, ftrue, flft, fobs, fbor, Memory, Routine, Heap, Calls, Loops, WpFn, Atoms, Fun, givenOf, Given, ‵, _⊛_, _$_, _∵_, !, qed, by, move, keep, drop, split, join, fsplit, fsplit3, fjoin, fjoin3, feqI, suffices, frame, done, unit-lit, look, init, stop, hop, fld, from, load, of-opd, no-more, assigns, first, returns, enter, alloc1, alloc0, params1, pass1, pass0, Body, FmC, owns, Is, mem, RefT, MutRef, ptr-vals, mut-tells, plain, owned, nothing, onEntry, says, Stays, stay-ref, walkOf, AllGo, goes-ref, Walks, ends-at, walked, stay-none, goes-none, yes}
+use Rattle.board.proofs.Walk.{none, some, _≡_, refl, sym, ℕ, [], _∷_, List, ℤ, URA, named, Val, vptr, vunit, SProp, ent, id⊢, emp, via, fst∗, sep, GName, Lft, Share, ftrue, flft, fobs, fbor, Memory, Routine, Heap, Calls, Loops, WpFn, Atoms, Fun, givenOf, Given, ‵, _⊛_, _$_, _∵_, !, qed}
+use Rattle.board.proofs.Walk.{by, move, keep, drop, split, join, fsplit, fsplit3, fjoin, fjoin3, feqI, suffices, frame, done, unit-lit, look, init, stop, hop, fld, from, load, of-opd, no-more, assigns, first, returns, enter, alloc1, alloc0, params1, pass1, pass0, Body, FmC, owns, Is, mem}
+use Rattle.board.proofs.Walk.{RefT, MutRef, ptr-vals, mut-tells, plain, owned, nothing, onEntry, says, Stays, stay-ref, walkOf, AllGo, goes-ref, Walks, ends-at, walked, stay-none, goes-none, yes}
 use Rattle.board.proofs.Call.{Callee, AllKnown, calls-plain, local}
 use Rattle.board.proofs.Callees.{changes-state, state-after, changes-zero, zero-after}
 use Rattle.board.proofs.Branch.{branches-on, skips-to, assigns-to}
