@@ -14,7 +14,7 @@ pub fn station_fits(station: u8) -> bool
     station <= 247
 }
 
-// The record of zeros, which is no device.
+// The record of zeros, every field 0, which is no device.
 fn no_device() -> Device
     ensures { λ r. ⌜ r ≡ noDevice ⌝ }
 {
