@@ -1,32 +1,28 @@
-// Computed against expected values, for what is not proved as a theorem: the messages of 001,
-// known checksums, floats both ways, and a frame and a reply of each kind (01, "Conditions of
-// acceptance"). Each line printed is how many cases of a group came out right, of how many.
+// Cases with their expected values: the messages of 001, known checksums, floats both ways, and a frame and a reply of each kind
+// (01, "Conditions of acceptance"). Each is a proof obligation, that the definitions give the expected value, and is run as well:
+// a case that comes out otherwise ends the run before its kind is named.
 mod checksums;
 mod floats;
 mod frames;
 mod replies;
 
-// One more where a case came out right.
-fn counted(so_far: u64, right: bool) -> u64 {
-    if right {
-        return std::num::wrapping_add_u64(so_far, 1);
-    }
-    so_far
-}
-
-// One line: the group's name, the cases that are right, and how many there are.
-fn report(name: &[u8], right: u64, cases: u64) {
-    io::write_all(1, name);
-    io::write_all(1, b" ");
-    io::print_decimal(1, right);
-    io::write_all(1, b" of ");
-    io::print_decimal(1, cases);
-    io::write_all(1, b"\n");
-}
-
 fn main() {
-    checksums::report_all();
-    floats::report_all();
-    frames::report_all();
-    replies::report_all();
+    checksums::cases();
+    io::write_all(1, b"checksums: as expected\n");
+    floats::of_001();
+    floats::out();
+    floats::zeros();
+    floats::flags();
+    io::write_all(1, b"floats: as expected\n");
+    frames::asked();
+    frames::written();
+    frames::not_served();
+    frames::misdirected();
+    frames::unfit();
+    frames::long();
+    io::write_all(1, b"frames: as expected\n");
+    replies::replies();
+    replies::exceptions();
+    replies::exceptions_to_writes();
+    io::write_all(1, b"replies: as expected\n");
 }

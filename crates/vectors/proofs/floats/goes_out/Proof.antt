@@ -1,25 +1,38 @@
--- `vectors::floats::goes_out` meets its contract: its two tests say that z is in the range. Assumes nothing.
-use Rattle.integers.proofs.Order.{lt-no}
-use Rattle.integers.proofs.Magnitude.{within-of}
+-- `vectors::floats::goes_out` meets its contract. Assumes nothing.
+use mathlib.Core.Path.{_∙_, ap, sym, subst}
+use lib.Ieee.{Float}
+use lib.IntN.{ℤ}
+use mir.Syntax.{w64}
+use mir.ValLaws.{toZ-ofZ}
 use borrow.Author.Needs.{needs}
+use borrow.Author.Tests.{eq-eqb, leb-true}
+use Rattle.integers.specs.Bytes.{wordOf}
+use Rattle.integers.specs.Within.{_within_}
+use Rattle.binary32.specs.Sent.{stepFloat}
+use Rattle.binary32.specs.Wire.{sent}
 use Rattle.vectors.proofs.floats.goes_out.Statement.{statement}
 use Rattle.vectors.proofs.floats.goes_out.Tie as tie
 
 float-of-steps-requires : tie.Need-float-of-steps-requires
-float-of-steps-requires c κs = within-of (lt-no (c .before .if1 .left)) (lt-no (c .if2 .left))
+float-of-steps-requires c κs =
+    subst (λ (z : ℤ). z within 4194304000) (sym (toZ-ofZ w64 _ (c .fits .z))) (record { abs = leb-true _ _ (c .pre .0) })
+
+expect-requires : tie.Need-expect-requires
+expect-requires c κs =
+    let k = c .before .before .before in
+    let z = ap stepFloat (toZ-ofZ w64 _ (k .before .fits .z)) in
+    let same = k .float-of-steps .ensures ∙ (z ∙ (k .before .pre .1 ∙ sym (c .before .float-of .ensures))) in
+    eq-eqb _ _
+    (c .before .before .bytes-of-float .ensures
+    ∙ (ap (λ (x : Float). wordOf (sent x)) same ∙ sym (c .bytes-of-float2 .ensures)))
 
 pub goes-out-spec : {M : Type 1} → statement M
 goes-out-spec =
     tie.close
     (tie.spec
-    (λ c. search needs)
-    (λ c. search needs)
     float-of-steps-requires
     (λ c κs. search needs)
-    (λ c. search needs)
-    (λ c. search needs)
-    (λ c. search needs)
-    (λ c. search needs)
     (λ c κs. search needs)
     (λ c κs. search needs)
+    expect-requires
     (λ c. search needs))

@@ -1,0 +1,38 @@
+-- What the proofs of the groups of cases share. Assumes nothing.
+use mathlib.Core.Path.{_≡_}
+use mathlib.Core.List.{List, _++_}
+use Prim.Native.Nat.{ℕ}
+use lib.ListN.{length, drop}
+use lib.Ieee.{ofBits, toBits, div, neg, round}
+use Rattle.arithmetic.specs.Round.{roundDiv, floorDiv}
+use Rattle.binary32.specs.Received.{zeroFits, zeroSteps, nearestStep, inWord, flagFits, flagWhole}
+use Rattle.binary32.specs.Sent.{stepFloat}
+use Rattle.binary32.specs.Wire.{wireBytes}
+use Rattle.modbus.specs.Checksum.{taken, framed}
+use Rattle.modbus.specs.Register.{accessOf}
+use Rattle.modbus.specs.Frame.{checked, toUs, forUs, accessAsked, readAsked, writeOf, writeAsked, judged}
+use Rattle.modbus.specs.Reply.{silent, answer, writeReply, exceptionCode, exceptionReply, Replied}
+
+-- What a case computes with: to unfold one of these is to unfold all that its line names.
+
+unfoldable pub floats : Unit {0}
+unfolding ofBits toBits div neg round wireBytes stepFloat zeroFits zeroSteps nearestStep roundDiv floorDiv inWord flagFits flagWhole
+floats = tt
+
+unfoldable pub frames : Unit {0}
+unfolding floats taken accessOf checked toUs forUs accessAsked readAsked writeOf writeAsked judged
+frames = tt
+
+unfoldable pub replies : Unit {0}
+unfolding floats taken framed silent answer writeReply exceptionCode exceptionReply
+replies = tt
+
+-- Two facts by each, and a reply by its parts, for `search`, which makes no pair and no record of so large a goal.
+
+pub both : {A B : Type 0} → A → B → A × B
+both a b = (a, b)
+
+pub replied :
+    {bytes before after : List ℕ} {n : ℕ} →
+    n ≡ length bytes → after ≡ bytes ++ drop (length bytes) before → Replied bytes before after n
+replied count buffer = record { count = count; buffer = buffer }

@@ -1,0 +1,9 @@
+-- Each case of `vectors::checksums::cases` computes to what is expected. Assumes nothing.
+use borrow.Author.Needs.{needs}
+use Rattle.modbus.specs.Checksum.{taken}
+use Rattle.vectors.proofs.checksums.cases.Statement.{statement}
+use Rattle.vectors.proofs.checksums.cases.Tie as tie
+
+pub cases-spec : {M : Type 1} → statement M
+unfolding taken
+cases-spec = tie.close (search (needs, tie.spec))

@@ -1,0 +1,20 @@
+-- What a frame asks as two numbers, so that the running program can compare it.
+use Prim.Native.Nat.{ℕ, _+_}
+use Rattle.integers.specs.Bytes.{wordOf}
+use Rattle.binary32.specs.Wire.{sent}
+use Rattle.modbus.specs.declared.frame.Frame.{Frame}
+use Rattle.modbus.specs.declared.frame.Frame.the-variants.{Refused, Read, Write, Act}
+
+-- the number of a refusal; else the register, with what is done to it
+unfoldable pub numberOf : Frame → ℕ
+numberOf (Refused n) = n
+numberOf (Read r) = 0x1_0000_0000 + r
+numberOf (Write r x) = 0x2_0000_0000 + r
+numberOf (Act r) = 0x3_0000_0000 + r
+
+-- the four bytes of a write's float; else 0
+unfoldable pub floatOf : Frame → ℕ
+floatOf (Refused n) = 0
+floatOf (Read r) = 0
+floatOf (Write r x) = wordOf (sent x)
+floatOf (Act r) = 0
