@@ -1,6 +1,8 @@
 //! With the feature `archive`: link libboard.a, found in BOARD_LIB_DIR.
 
-use std::env;
+use std::ffi::OsString;
+use std::path::PathBuf;
+use std::{env, process};
 
 fn main() {
     println!("cargo:rerun-if-changed=build.rs");
@@ -8,10 +10,25 @@ fn main() {
     if env::var_os("CARGO_FEATURE_ARCHIVE").is_none() {
         return;
     }
-    let dir = env::var("BOARD_LIB_DIR").expect("feature `archive` needs BOARD_LIB_DIR, the folder of libboard.a");
-    println!("cargo:rerun-if-changed={dir}/libboard.a");
-    println!("cargo:rustc-link-search=native={dir}");
+    let dir = folder(env::var_os("BOARD_LIB_DIR")).unwrap_or_else(|wrong| {
+        eprintln!("{wrong}");
+        process::exit(1);
+    });
+    println!("cargo:rerun-if-changed={}", dir.join("libboard.a").display());
+    println!("cargo:rustc-link-search=native={}", dir.display());
     println!("cargo:rustc-link-lib=static:-bundle=board");
-    // A Rust static archive brings its own panic handler and parts of core; one of each is enough.
-    println!("cargo:rustc-link-arg=-Wl,--allow-multiple-definition");
+}
+
+/// The folder that has the archive, or what is wrong with it.
+pub fn folder(dir: Option<OsString>) -> Result<PathBuf, String> {
+    let Some(dir) = dir.filter(|dir| !dir.is_empty()).map(PathBuf::from) else {
+        return Err("BOARD_LIB_DIR is not set: the feature `archive` links libboard.a from that folder".into());
+    };
+    if !dir.is_dir() {
+        return Err(format!("BOARD_LIB_DIR: {} is not a folder", dir.display()));
+    }
+    if !dir.join("libboard.a").is_file() {
+        return Err(format!("BOARD_LIB_DIR: no libboard.a in {}; `rt staticlib board` writes it", dir.display()));
+    }
+    Ok(dir)
 }
