@@ -1,6 +1,6 @@
 //! A pseudo-terminal in raw mode, and waiting on descriptors: the calls of Linux's C library that std does not offer.
 
-use std::ffi::{c_char, c_int, c_long, c_short, c_ulong, c_void, CStr};
+use std::ffi::{c_char, c_int, c_long, c_short, c_ulong, c_void, CStr, CString};
 use std::fs::{File, OpenOptions};
 use std::io;
 use std::os::fd::{AsRawFd, BorrowedFd, FromRawFd};
@@ -13,6 +13,8 @@ const O_NOCTTY: c_int = 0o400;
 const O_NONBLOCK: c_int = 0o4000;
 const O_CLOEXEC: c_int = 0o2_000_000;
 const TCSANOW: c_int = 0;
+const TCIFLUSH: c_int = 0;
+const IN_OPEN_CLOSE: u32 = 0x38;
 const POLLIN: c_short = 1;
 
 /// Filled and read by the C library alone, so only room and alignment matter; glibc's has 60 bytes.
@@ -40,6 +42,9 @@ extern "C" {
     fn tcgetattr(fd: c_int, termios: *mut Termios) -> c_int;
     fn cfmakeraw(termios: *mut Termios);
     fn tcsetattr(fd: c_int, actions: c_int, termios: *const Termios) -> c_int;
+    fn tcflush(fd: c_int, queue: c_int) -> c_int;
+    fn inotify_init1(flags: c_int) -> c_int;
+    fn inotify_add_watch(fd: c_int, path: *const c_char, mask: u32) -> c_int;
     fn ppoll(fds: *mut PollFd, n: c_ulong, time: *const Timespec, signals: *const c_void) -> c_int;
 }
 
@@ -48,7 +53,9 @@ pub struct Pty {
     master: File,
     name: String,
     /// Held so that the master can be read while no client has the slave open; else a read fails with EIO.
-    _slave: File,
+    slave: File,
+    /// Can be read once a client has opened or closed the slave.
+    visits: File,
 }
 
 impl Pty {
@@ -61,7 +68,8 @@ impl Pty {
         let name = slave_name(&master)?;
         let slave = open_slave(&name)?;
         make_raw(&slave)?;
-        Ok(Pty { master, name, _slave: slave })
+        let visits = watch_visits(&name)?;
+        Ok(Pty { master, name, slave, visits })
     }
 
     /// The path that a client opens.
@@ -72,6 +80,26 @@ impl Pty {
     pub fn master(&self) -> &File {
         &self.master
     }
+
+    pub fn visits(&self) -> &File {
+        &self.visits
+    }
+
+    /// Drop what was sent to clients and none has read: the slave's input. What clients have sent is its output, and is kept.
+    pub fn drop_unread(&self) -> io::Result<()> {
+        succeeded(unsafe { tcflush(self.slave.as_raw_fd(), TCIFLUSH) })?;
+        Ok(())
+    }
+}
+
+/// A descriptor that never blocks, and can be read once a file has been opened or closed by anyone.
+fn watch_visits(name: &str) -> io::Result<File> {
+    let path = CString::new(name)?;
+    let fd = succeeded(unsafe { inotify_init1(O_NONBLOCK | O_CLOEXEC) })?;
+    // A descriptor that was just opened, and has no other owner.
+    let visits = unsafe { File::from_raw_fd(fd) };
+    succeeded(unsafe { inotify_add_watch(fd, path.as_ptr(), IN_OPEN_CLOSE) })?;
+    Ok(visits)
 }
 
 /// Open a terminal by name, as a client does; it does not become the controlling terminal.

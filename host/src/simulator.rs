@@ -64,16 +64,29 @@ impl<C: Converter> Simulator<C> {
             self.follow_profile(Instant::now());
             let until = [self.line.ends(), self.source.due()].into_iter().flatten().min();
             let time = until.map(|t| t.saturating_duration_since(Instant::now()));
-            let [bus, text] = wait([Some(self.pty.master().as_fd()), self.source.input()], time)?;
+            let (bus, visits) = (self.pty.master().as_fd(), self.pty.visits().as_fd());
+            let [bus, text, visit] = wait([Some(bus), self.source.input(), Some(visits)], time)?;
+            if visit {
+                self.change_client()?;
+            }
             // Readings first: one that was handed in before a frame counts for it.
             if text {
                 self.read_text();
             }
             // Then the frame that a silence ended, before bytes that came after the silence.
-            self.answer(Instant::now());
+            self.answer(Instant::now())?;
             if bus {
                 self.receive()?;
             }
+        }
+    }
+
+    /// A client came or went: a reply that the one before did not fetch is not for the next.
+    fn change_client(&mut self) -> io::Result<()> {
+        let mut events = [0; 4_096];
+        match self.pty.visits().read(&mut events) {
+            Err(e) if !matches!(e.kind(), ErrorKind::WouldBlock | ErrorKind::Interrupted) => Err(e),
+            _ => self.pty.drop_unread(),
         }
     }
 
@@ -117,8 +130,8 @@ impl<C: Converter> Simulator<C> {
         Ok(())
     }
 
-    fn answer(&mut self, now: Instant) {
-        let Some(frame) = self.line.take(now) else { return };
+    fn answer(&mut self, now: Instant) -> io::Result<()> {
+        let Some(frame) = self.line.take(now) else { return Ok(()) };
         let mut buffer = [0; 256];
         let (number, length) = self.device.frame(frame, &mut buffer);
         let reply = &buffer[..length];
@@ -126,10 +139,12 @@ impl<C: Converter> Simulator<C> {
             report(format_args!("frame {}\n  {number} {}", hex(frame), meaning(number)));
             report(format_args!("  reply {}", hex(reply)));
         }
-        // As on a wire, what nobody takes is lost: a client that never reads fills the terminal's queue.
+        // As on a wire, what nobody takes is lost: the next request finds no earlier reply.
+        self.pty.drop_unread()?;
         if length > 0 && !self.pty.master().write(reply).is_ok_and(|n| n == length) {
-            report("a reply was lost: the client does not read");
+            report("a reply was lost: the terminal did not take it");
         }
+        Ok(())
     }
 }
 

@@ -128,12 +128,33 @@ fn a_short_gap_joins_pieces() {
 fn a_silence_parts_frames() {
     let mut bus = Bus::with_reading();
     let frame = read_frame(STATION, SYS);
-    bus.send(&frame);
+    bus.send(&read_frame(STATION, SZ));
     sleep(4 * silence(BAUD));
     bus.send(&frame);
-    assert_eq!(bus.replies(), [HUNDRED, HUNDRED].concat());
+    sleep(4 * silence(BAUD));
+    // Each was answered; the first reply, which nobody had fetched, was dropped for the second.
+    assert_eq!(bus.replies(), HUNDRED);
     // With no silence between them the two are one frame, with a wrong checksum.
     assert_eq!(bus.exchange(&[&frame[..], &frame].concat()), []);
+}
+
+#[test]
+fn a_reply_is_not_for_the_next_client() {
+    let mut bus = Bus::with_reading();
+    // A client goes with its reply there and unread; another goes before it is answered.
+    for wait_for_reply in [true, false] {
+        bus.send(&write_frame(STATION, SZ, 12.5_f32.to_bits()));
+        if wait_for_reply {
+            assert_eq!(wait([Some(bus.client.as_fd())], Some(20 * silence(BAUD))).expect("waited"), [true]);
+        }
+        bus.client = File::open("/dev/null").expect("opened");
+        sleep(6 * silence(BAUD));
+        bus.client = open_slave(bus.name.trim_end()).expect("the terminal opens again");
+        sleep(silence(BAUD));
+        // Nothing is lost but the reply: SZ was written.
+        assert_eq!(bus.exchange(&read_frame(STATION, SZ)), sealed(vec![STATION, 3, 4, 0, 0, 0x41, 0x48]));
+        assert_eq!(bus.exchange(&write_frame(STATION, SZ, 0)), sealed(vec![STATION, 16, 0, 44, 0, 2]));
+    }
 }
 
 #[test]
