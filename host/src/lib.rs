@@ -14,6 +14,7 @@ pub mod readings;
 pub mod refusals;
 #[cfg(feature = "archive")]
 pub mod simulator;
+pub mod tool;
 
 pub use model::Converter;
 

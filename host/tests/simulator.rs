@@ -225,7 +225,8 @@ fn what_is_turned_down_and_bad_usage() {
     let (code, said) = ended(&["/dev/null", "52"]);
     assert_eq!((code, said.starts_with("refused 1\nshort sheet")), (Some(1), true), "{said}");
     assert_eq!(ended(&["/dev/zero", "52"]).1.lines().next(), Some("refused 2"));
-    assert_eq!(ended(&["/no/such/sheet", "52"]).0, Some(1));
+    let not_there = "/no/such/sheet: No such file or directory (os error 2)\n".to_string();
+    assert_eq!(ended(&["/no/such/sheet", "52"]), (Some(1), not_there));
     let wrong: [&[&str]; 8] = [
         &[],
         &["default"],
@@ -238,6 +239,15 @@ fn what_is_turned_down_and_bad_usage() {
     ];
     for arguments in wrong {
         let (code, said) = ended(arguments);
-        assert_eq!((code, said.starts_with("converter-sim SHEET STATION")), (Some(2), true), "{arguments:?}");
+        assert_eq!((code, said.starts_with("usage: converter-sim SHEET STATION")), (Some(2), true), "{arguments:?}");
+    }
+}
+
+#[test]
+fn help() {
+    for word in ["-h", "--help"] {
+        let Output { status, stdout, stderr } = command(&[word]).output().expect("it runs");
+        assert_eq!((status.code(), stderr), (Some(0), Vec::new()));
+        assert!(stdout.starts_with(b"converter-sim SHEET STATION"), "{word}");
     }
 }

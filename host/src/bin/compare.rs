@@ -5,8 +5,9 @@
 //! record (a refused making leaves zeros).
 
 use host::generate::{self, Call, Rng};
+use host::tool::{run, Failure};
 use host::{read_frame, Converter, Other, REGISTERS, WITH_ARCHIVE};
-use std::{env, process::ExitCode};
+use std::process::ExitCode;
 
 /// Bytes kept on either side of a lent buffer.
 const MARGIN: usize = 16;
@@ -69,12 +70,21 @@ fn describe(call: &Call) -> String {
     }
 }
 
+/// How many calls, and the seed.
+fn arguments(words: &[String]) -> Option<(u64, u64)> {
+    let [calls, seed] = words else { return None };
+    Some((calls.parse().ok().filter(|&calls| calls > 0)?, seed.parse().ok()?))
+}
+
 fn main() -> ExitCode {
-    let arguments: Vec<u64> = env::args().skip(1).filter_map(|a| a.parse().ok()).collect();
-    let [calls, seed] = arguments[..] else {
-        eprintln!("compare CALLS SEED");
-        return ExitCode::FAILURE;
-    };
+    run("compare CALLS SEED", |words| {
+        let (calls, seed) = arguments(words).ok_or(Failure::Usage)?;
+        Ok(compare(calls, seed))
+    })
+}
+
+/// Whether no call differs.
+fn compare(calls: u64, seed: u64) -> bool {
     let (mut rng, mut differences) = (Rng::new(seed), 0);
     let (mut model, mut other) = (model::Device::default(), Other::default());
     let mut reads: Vec<Vec<u8>> = Vec::new();
@@ -116,5 +126,5 @@ fn main() -> ExitCode {
     println!("FLAG bits seen {flags}; longest run of readings without start or RST {longest}");
     let pair = if WITH_ARCHIVE { "model and archive" } else { "model and itself (no archive linked)" };
     println!("{pair}: {calls} calls, each with {} register reads, {differences} differences", REGISTERS.len());
-    ExitCode::from(u8::from(differences != 0))
+    differences == 0
 }

@@ -6,13 +6,14 @@ use host::pty::Pty;
 use host::readings::Profile;
 use host::refusals::meaning;
 use host::simulator::{Simulator, Source};
+use host::tool::{failed, run, Failure};
 use host::Converter;
 use model::sheet::LONGEST;
 use model::Figures;
 use std::fs::File;
 use std::io::{self, Read, Write};
 use std::os::fd::AsFd;
-use std::{env, process::ExitCode};
+use std::process::ExitCode;
 
 const USAGE: &str = "\
 converter-sim SHEET STATION [--profile fill|still | --readings -] [--baud N] [--verbose]
@@ -68,43 +69,27 @@ fn sheet_bytes(sheet: &str) -> io::Result<Vec<u8>> {
     Ok(bytes)
 }
 
-fn run(a: &Arguments) -> Result<(), String> {
-    let sheet = sheet_bytes(&a.sheet).map_err(|e| format!("{}: {e}", a.sheet))?;
+fn serve(a: &Arguments) -> Result<bool, Failure> {
+    let sheet = sheet_bytes(&a.sheet).map_err(failed(&a.sheet))?;
     let mut device = Device::default();
     let number = device.make(&sheet, a.station);
     if number != 0 {
-        return Err(format!("refused {number}\n{}", meaning(number)));
+        return Err(Failure::Said(format!("refused {number}\n{}", meaning(number))));
     }
-    let failed = |e: io::Error| format!("the pseudo-terminal: {e}");
     let source = match a.profile {
         Some(profile) => Source::profile(profile),
         // Not std's own reader: what that has buffered, poll does not see.
-        None => Source::text(io::stdin().as_fd().try_clone_to_owned().map_err(|e| format!("readings: {e}"))?.into()),
+        None => Source::text(io::stdin().as_fd().try_clone_to_owned().map_err(failed("readings"))?.into()),
     };
-    let pty = Pty::open().map_err(failed)?;
+    let pty = Pty::open().map_err(failed("the pseudo-terminal"))?;
     let mut out = io::stdout();
-    writeln!(out, "{}", pty.name()).and_then(|()| out.flush()).map_err(|e| format!("standard output: {e}"))?;
+    writeln!(out, "{}", pty.name()).and_then(|()| out.flush()).map_err(failed("standard output"))?;
     match Simulator::new(device, pty, Line::new(a.baud), source, a.verbose).serve() {
         Ok(never) => match never {},
-        Err(e) => Err(failed(e)),
+        Err(e) => Err(failed("the pseudo-terminal")(e)),
     }
 }
 
 fn main() -> ExitCode {
-    let words: Vec<String> = env::args_os().skip(1).map(|w| w.to_string_lossy().into_owned()).collect();
-    if words.iter().any(|w| w == "--help") {
-        println!("{USAGE}");
-        return ExitCode::SUCCESS;
-    }
-    let Some(arguments) = arguments(words.into_iter()) else {
-        eprintln!("{USAGE}");
-        return ExitCode::from(2);
-    };
-    match run(&arguments) {
-        Ok(()) => ExitCode::SUCCESS,
-        Err(message) => {
-            eprintln!("{message}");
-            ExitCode::FAILURE
-        }
-    }
+    run(USAGE, |words| serve(&arguments(words.iter().cloned()).ok_or(Failure::Usage)?))
 }

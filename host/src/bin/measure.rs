@@ -2,11 +2,12 @@
 //! measure KIND N [model|archive]: runs one kind N times; host/benchmark counts its instructions.
 
 use host::generate::{sheet, Rng};
+use host::tool::{run, Failure};
 use host::{read_frame, write_frame, Converter, Other, WITH_ARCHIVE};
 use model::sheet::{most, LinearityPoint, TemperaturePoint};
 use model::Figures;
 use std::hint::black_box;
-use std::{env, mem::size_of, process::ExitCode, time::Instant};
+use std::{mem::size_of, process::ExitCode, time::Instant};
 
 const KINDS: [(&str, &str); 4] = [
     ("default", "reading, default sheet"),
@@ -31,7 +32,7 @@ fn full() -> Figures {
 }
 
 /// The seconds that n calls of a kind took.
-fn run<C: Converter>(kind: &str, n: usize) -> f64 {
+fn calls<C: Converter>(kind: &str, n: usize) -> f64 {
     let mut rng = Rng::new(1);
     let figures = if kind == "full" { full() } else { Figures::standard() };
     let mut device = C::default();
@@ -72,8 +73,8 @@ fn passes(kind: &str) -> [(f64, f64); 2] {
     let ns = |seconds: f64| seconds * 1e9 / N as f64;
     let mut both = [Vec::new(), Vec::new()];
     for _ in 0..PASSES {
-        both[0].push(ns(run::<model::Device>(kind, N)));
-        both[1].push(ns(run::<Other>(kind, N)));
+        both[0].push(ns(calls::<model::Device>(kind, N)));
+        both[1].push(ns(calls::<Other>(kind, N)));
     }
     both.map(|mut pass| {
         pass.sort_by(f64::total_cmp);
@@ -98,19 +99,27 @@ fn table() {
     row("bytes of the record", archive.to_string(), model.to_string(), archive as f64 / model as f64);
 }
 
+/// A kind, how often, and whether on the archive.
+fn arguments(words: &[String]) -> Option<(&str, usize, bool)> {
+    let ([kind, n] | [kind, n, _]) = words else { return None };
+    let archive = match words.get(2).map(String::as_str) {
+        None | Some("model") => false,
+        Some("archive") => WITH_ARCHIVE.then_some(true)?,
+        Some(_) => return None,
+    };
+    KINDS.iter().find(|(name, _)| name == kind)?;
+    Some((kind, n.parse().ok().filter(|&n| n > 0)?, archive))
+}
+
 fn main() -> ExitCode {
-    let arguments: Vec<String> = env::args().skip(1).collect();
-    if let [kind, n, which @ ..] = &arguments[..] {
-        let n = n.parse().unwrap_or(0);
-        let archive = which.first().is_some_and(|w| w == "archive");
-        if n == 0 || !KINDS.iter().any(|(name, _)| name == kind) || (archive && !WITH_ARCHIVE) {
-            eprintln!("measure [default|full|read|write N [model|archive]] (archive: only if linked)");
-            return ExitCode::FAILURE;
+    run("measure [default|full|read|write N [model|archive]] (archive: only if linked)", |words| {
+        if words.is_empty() {
+            table();
+            return Ok(true);
         }
-        let seconds = if archive { run::<Other>(kind, n) } else { run::<model::Device>(kind, n) };
-        println!("{kind}: {n} calls in {:.6} s", seconds);
-        return ExitCode::SUCCESS;
-    }
-    table();
-    ExitCode::SUCCESS
+        let (kind, n, archive) = arguments(words).ok_or(Failure::Usage)?;
+        let seconds = if archive { calls::<Other>(kind, n) } else { calls::<model::Device>(kind, n) };
+        println!("{kind}: {n} calls in {seconds:.6} s");
+        Ok(true)
+    })
 }

@@ -1,9 +1,12 @@
 //! replay SCENARIOS [BENCH-FOLDER]: the vectors against the model and, if linked, the archive.
 
+use host::tool::{failed, run, Failure};
 use host::{Converter, FILL, WITH_ARCHIVE};
 use model::sheet::{self, LinearityPoint, TemperaturePoint};
 use model::{number, Figures};
-use std::{env, fs, path::Path, process::ExitCode};
+use std::path::{Path, PathBuf};
+use std::str::FromStr;
+use std::{fs, process::ExitCode};
 
 #[derive(Default)]
 struct Tally {
@@ -17,16 +20,29 @@ impl Tally {
         self.checked += 1;
         if found != expected {
             self.differences += 1;
-            let short: String = what.chars().take(160).collect();
-            println!("DIFFERENCE at {short}\n  expected {expected}\n  found    {found}");
+            println!("DIFFERENCE at {}\n  expected {expected}\n  found    {found}", short(what));
         }
     }
 }
 
-fn bytes(hex: &str) -> Vec<u8> {
-    let hex = if hex == "-" { "" } else { hex };
-    let byte = |i| u8::from_str_radix(&hex[i..i + 2], 16).expect("hexadecimal bytes");
-    (0..hex.len()).step_by(2).map(byte).collect()
+/// A word as a value of a kind, or the sentence that says that it is none.
+fn parsed<T: FromStr>(word: &str, kind: &str) -> Result<T, String> {
+    word.parse().map_err(|_| format!("not {kind}: {}", short(word)))
+}
+
+fn short(text: &str) -> String {
+    text.chars().take(160).collect()
+}
+
+fn bytes(hex: &str) -> Result<Vec<u8>, String> {
+    let digits = if hex == "-" { "" } else { hex }.as_bytes();
+    let digit = |c: u8| char::from(c).to_digit(16);
+    let byte = |pair: &[u8]| match *pair {
+        [high, low] => Some((16 * digit(high)? + digit(low)?) as u8),
+        _ => None,
+    };
+    let bytes = digits.chunks(2).map(byte).collect::<Option<_>>();
+    bytes.ok_or_else(|| format!("not hexadecimal bytes: {}", short(hex)))
 }
 
 fn hex(bytes: &[u8]) -> String {
@@ -37,17 +53,22 @@ fn hex(bytes: &[u8]) -> String {
 }
 
 /// Figures in the order of the vectors' README.
-fn figures(list: &str) -> Figures {
-    let mut numbers = list.split(',').map(|n| n.parse::<i64>().expect("a figure"));
-    let mut next = || numbers.next().expect("40 figures and 2 counts");
+fn figures(list: &str) -> Result<Figures, String> {
+    let numbers: Vec<i64> = list.split(',').map(|n| parsed(n, "a figure")).collect::<Result<_, _>>()?;
+    if numbers.len() != 42 {
+        return Err(format!("not 40 figures and 2 counts: {}", short(list)));
+    }
+    let count = |n: i64| n.try_into().map_err(|_| format!("not a count: {n}"));
+    let mut numbers = numbers.into_iter();
+    let mut next = || numbers.next().unwrap_or_default();
     let mut f = Figures { cofs: next(), cgai: next(), cmin: next(), cmax: next(), ..Figures::default() };
-    f.ctn = next().try_into().expect("a count");
+    f.ctn = count(next())?;
     f.temperature = [(); 5].map(|()| TemperaturePoint { ct: next(), cto: next(), ctg: next() });
-    f.cln = next().try_into().expect("a count");
+    f.cln = count(next())?;
     f.linearity = [(); 7].map(|()| LinearityPoint { clx: next(), clk: next() });
     (f.sofs, f.sgai, f.smin, f.smax, f.sz) = (next(), next(), next(), next(), next());
     (f.fflv, f.ffst) = (next(), next());
-    f
+    Ok(f)
 }
 
 fn list(f: &Figures) -> String {
@@ -59,92 +80,110 @@ fn list(f: &Figures) -> String {
     n.iter().map(i64::to_string).collect::<Vec<_>>().join(",")
 }
 
-fn scenarios<C: Converter>(text: &str, with_sheets: bool, tally: &mut Tally) {
+/// A lent buffer; its length has two bytes, so that no line asks for more than there is.
+fn buffer(room: &str) -> Result<Vec<u8>, String> {
+    Ok(vec![FILL; parsed::<u16>(room, "a room of 0 to 65535")?.into()])
+}
+
+/// A refused making leaves the device, and a record of zeros.
+fn make<C: Converter>(device: &mut C, sheet: &[u8], station: u8) -> String {
+    let mut made = device.clone();
+    let number = made.make(sheet, station);
+    if number == 0 {
+        *device = made;
+    } else if made != C::default() {
+        return format!("{number}, with a record that is not zeros");
+    }
+    number.to_string()
+}
+
+/// What a call gives, as a line of the vectors has it; or what is wrong with the line.
+fn found<C: Converter>(device: &mut C, words: &[&str]) -> Result<String, String> {
+    Ok(match *words {
+        ["make", sheet, station] => make(device, &bytes(sheet)?, parsed(station, "a station")?),
+        ["reading", elec, temp, integrity] => {
+            let (elec, temp) = (parsed(elec, "ELEC")?, parsed(temp, "TEMP")?);
+            device.reading(elec, temp, parsed(integrity, "an integrity byte")?).to_string()
+        }
+        ["report"] => {
+            let (number, [sys, peak, trof, cell]) = device.report();
+            format!("{number} {sys:08x} {peak:08x} {trof:08x} {cell:08x}")
+        }
+        ["frame", frame, room] => {
+            let mut reply = buffer(room)?;
+            let (number, length) = device.frame(&bytes(frame)?, &mut reply);
+            format!("{number} {length} {}", hex(&reply))
+        }
+        ["read", sheet] => {
+            let read = sheet::read(&bytes(sheet)?);
+            format!("{} {}", number(&read), list(&read.unwrap_or_default()))
+        }
+        ["write", figure_list, room] => {
+            let mut out = buffer(room)?;
+            let written = sheet::write(&figures(figure_list)?, &mut out);
+            format!("{} {} {}", number(&written), written.unwrap_or(0), hex(&out))
+        }
+        _ => return Err(format!("no such call: {}", short(&words.join(" ")))),
+    })
+}
+
+fn scenarios<C: Converter>(text: &str, with_sheets: bool, tally: &mut Tally) -> Result<(), String> {
     let mut device = C::default();
-    for (i, line) in text.lines().enumerate() {
-        let (call, expected) = line.split_once(" = ").unwrap_or((line, ""));
-        let words: Vec<&str> = call.split(' ').collect();
-        let found = match words[..] {
-            ["scenario", _] => {
-                device = C::default();
-                continue;
+    for (line, at) in text.lines().zip(1..) {
+        let words: Vec<&str> = line.split(' ').collect();
+        match words[..] {
+            ["scenario", _] => device = C::default(),
+            ["read" | "write", ..] if !with_sheets => tally.left_out += 1,
+            _ => {
+                let (call, expected) = line.split_once(" = ").unwrap_or((line, ""));
+                let call_words: Vec<&str> = call.split(' ').collect();
+                let found = found(&mut device, &call_words).map_err(|wrong| format!("line {at}: {wrong}"))?;
+                tally.check(&format!("line {at}: {call}"), &found, expected);
             }
-            ["make", sheet, station] => {
-                let mut made = device.clone();
-                let number = made.make(&bytes(sheet), station.parse().expect("a station"));
-                if number == 0 {
-                    device = made;
-                } else if made != C::default() {
-                    tally.check(&format!("line {}", i + 1), "a refused making's record", "zeros");
-                }
-                number.to_string()
-            }
-            ["reading", elec, temp, integrity] => {
-                let integrity = integrity.parse().expect("an integrity byte");
-                let (elec, temp) = (elec.parse().expect("ELEC"), temp.parse().expect("TEMP"));
-                device.reading(elec, temp, integrity).to_string()
-            }
-            ["report"] => {
-                let (number, [sys, peak, trof, cell]) = device.report();
-                format!("{number} {sys:08x} {peak:08x} {trof:08x} {cell:08x}")
-            }
-            ["frame", frame, room] => {
-                let mut reply = vec![FILL; room.parse().expect("a room")];
-                let (number, length) = device.frame(&bytes(frame), &mut reply);
-                format!("{number} {length} {}", hex(&reply))
-            }
-            ["read" | "write", ..] if !with_sheets => {
-                tally.left_out += 1;
-                continue;
-            }
-            ["read", sheet] => {
-                let read = sheet::read(&bytes(sheet));
-                format!("{} {}", number(&read), list(&read.unwrap_or_default()))
-            }
-            ["write", figure_list, room] => {
-                let mut out = vec![FILL; room.parse().expect("a room")];
-                let written = sheet::write(&figures(figure_list), &mut out);
-                format!("{} {} {}", number(&written), written.unwrap_or(0), hex(&out))
-            }
-            _ => panic!("line {}: no such call: {line}", i + 1),
-        };
-        tally.check(&format!("line {}: {call}", i + 1), &found, expected);
+        }
     }
+    Ok(())
 }
 
-fn bench<C: Converter>(folder: &Path, tally: &mut Tally) {
-    let entries = fs::read_dir(folder).expect("the bench folder").map(|e| e.expect("an entry").path());
-    for path in entries.filter(|p| p.extension().is_some_and(|e| e == "in")) {
+fn bench<C: Converter>(folder: &Path, tally: &mut Tally) -> Result<(), Failure> {
+    let text = |path: &Path| path.display().to_string();
+    let entries = fs::read_dir(folder).map_err(failed(&text(folder)))?;
+    let paths: Vec<PathBuf> =
+        entries.map(|e| e.map(|e| e.path())).collect::<Result<_, _>>().map_err(failed(&text(folder)))?;
+    for path in paths.iter().filter(|p| p.extension().is_some_and(|e| e == "in")) {
+        let (input, stored) = (fs::read(path), path.with_extension("out"));
         let mut out = Vec::new();
-        model::bench::run::<C>(&fs::read(&path).expect("input"), &mut out).expect("a vector takes all");
-        let expected = fs::read_to_string(path.with_extension("out")).expect("expected output");
-        let name = path.display().to_string();
-        tally.check(&name, &String::from_utf8_lossy(&out), &expected);
+        model::bench::run::<C>(&input.map_err(failed(&text(path)))?, &mut out).map_err(failed(&text(path)))?;
+        let expected = fs::read_to_string(&stored).map_err(failed(&text(&stored)))?;
+        tally.check(&text(path), &String::from_utf8_lossy(&out), &expected);
     }
+    if tally.checked == 0 {
+        return Err(Failure::Said(format!("{}: no bench run (*.in) there", text(folder))));
+    }
+    Ok(())
 }
 
-fn replay<C: Converter>(name: &str, text: &str, folder: Option<&str>, with_sheets: bool) -> bool {
+fn replay<C: Converter>(name: &str, file: &str, folder: Option<&String>, with_sheets: bool) -> Result<bool, Failure> {
+    let text = fs::read_to_string(file).map_err(failed(file))?;
     let (mut lines, mut runs) = (Tally::default(), Tally::default());
-    scenarios::<C>(text, with_sheets, &mut lines);
+    scenarios::<C>(&text, with_sheets, &mut lines).map_err(|wrong| Failure::Said(format!("{file}: {wrong}")))?;
     if let Some(folder) = folder {
-        bench::<C>(Path::new(folder), &mut runs);
+        bench::<C>(Path::new(folder), &mut runs)?;
     }
     println!("{name}: {} lines checked, {} left out, {} differences", lines.checked, lines.left_out, lines.differences);
     println!("{name}: {} bench runs checked, {} differences", runs.checked, runs.differences);
-    lines.differences + runs.differences == 0 && lines.checked > 0
+    if lines.checked == 0 {
+        return Err(Failure::Said(format!("{file}: no line to check")));
+    }
+    Ok(lines.differences + runs.differences == 0)
 }
 
 fn main() -> ExitCode {
-    let arguments: Vec<String> = env::args().collect();
-    let Some(path) = arguments.get(1) else {
-        eprintln!("replay SCENARIOS [BENCH-FOLDER]");
-        return ExitCode::FAILURE;
-    };
-    let text = fs::read_to_string(path).expect("the scenarios");
-    let folder = arguments.get(2).map(String::as_str);
-    let mut good = replay::<model::Device>("model", &text, folder, true);
-    if WITH_ARCHIVE {
-        good &= replay::<host::Other>("archive", &text, folder, false);
-    }
-    ExitCode::from(u8::from(!good))
+    run("replay SCENARIOS [BENCH-FOLDER]", |words| {
+        let ([file] | [file, _]) = words else { return Err(Failure::Usage) };
+        let folder = words.get(1);
+        let model = replay::<model::Device>("model", file, folder, true)?;
+        let archive = !WITH_ARCHIVE || replay::<host::Other>("archive", file, folder, false)?;
+        Ok(model && archive)
+    })
 }

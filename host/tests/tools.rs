@@ -1,0 +1,151 @@
+//! The tools on bad input: one plain sentence on standard error and a failing status, never a panic.
+
+use std::ffi::OsString;
+use std::fs::{self, File};
+use std::path::{Path, PathBuf};
+use std::process::{Command, Output, Stdio};
+
+#[allow(dead_code)] // its main is cargo's
+#[path = "../build.rs"]
+mod build;
+
+const REPLAY: &str = env!("CARGO_BIN_EXE_replay");
+const COMPARE: &str = env!("CARGO_BIN_EXE_compare");
+const MEASURE: &str = env!("CARGO_BIN_EXE_measure");
+const BENCH: &str = env!("CARGO_BIN_EXE_bench");
+
+/// The status, standard output and standard error of a tool with this standard input.
+fn run(tool: &str, arguments: &[&str], input: Stdio, output: Stdio) -> (Option<i32>, String, String) {
+    let Output { status, stdout, stderr } = Command::new(tool)
+        .args(arguments)
+        .stdin(input)
+        .stdout(output)
+        .stderr(Stdio::piped())
+        .output()
+        .expect("it runs");
+    let text = |bytes| String::from_utf8(bytes).expect("text");
+    (status.code(), text(stdout), text(stderr))
+}
+
+/// It fails with this status and says this, in one line, and nothing else.
+fn fails(tool: &str, arguments: &[&str], status: i32, said: &str) {
+    let found = run(tool, arguments, Stdio::null(), Stdio::piped());
+    assert_eq!(found, (Some(status), String::new(), format!("{said}\n")), "{tool} {arguments:?}");
+}
+
+/// A file or a folder of this test alone.
+fn place(name: &str) -> PathBuf {
+    Path::new(env!("CARGO_TARGET_TMPDIR")).join(name)
+}
+
+#[test]
+fn bad_usage() {
+    let usages: [(&str, &str, &[&[&str]]); 4] = [
+        (REPLAY, "replay SCENARIOS [BENCH-FOLDER]", &[&[], &["a", "b", "c"]]),
+        (COMPARE, "compare CALLS SEED", &[&[], &["1"], &["1", "x"], &["0", "1"], &["-1", "1"], &["1", "x", "1"]]),
+        (
+            MEASURE,
+            "measure [default|full|read|write N [model|archive]] (archive: only if linked)",
+            &[&["nosuch"], &["read"], &["nosuch", "1"], &["read", "0"], &["read", "x"], &["read", "1", "x"]],
+        ),
+        (BENCH, "bench < INPUT", &[&["file"]]),
+    ];
+    for (tool, usage, wrong) in usages {
+        for arguments in wrong {
+            fails(tool, arguments, 2, &format!("usage: {usage}"));
+        }
+        for help in ["-h", "--help"] {
+            let found = run(tool, &[help], Stdio::null(), Stdio::piped());
+            assert_eq!(found, (Some(0), format!("{usage}\n"), String::new()), "{tool} {help}");
+        }
+    }
+}
+
+#[test]
+fn files_that_are_not_there() {
+    const NOT_THERE: &str = "No such file or directory (os error 2)";
+    fails(REPLAY, &["nosuch"], 1, &format!("nosuch: {NOT_THERE}"));
+    let (scenarios, empty) = (place("report.txt"), place("empty"));
+    fs::write(&scenarios, "report = 10 00000000 00000000 00000000 00000000\n").expect("written");
+    let scenarios = scenarios.to_str().expect("text");
+    fails(REPLAY, &[scenarios, "nosuch"], 1, &format!("nosuch: {NOT_THERE}"));
+    fs::create_dir_all(&empty).expect("made");
+    let empty = empty.to_str().expect("text");
+    fails(REPLAY, &[scenarios, empty], 1, &format!("{empty}: no bench run (*.in) there"));
+    let half = place("half");
+    fs::create_dir_all(&half).expect("made");
+    fs::write(half.join("run.in"), "").expect("written");
+    let out = half.join("run.out").display().to_string();
+    fails(REPLAY, &[scenarios, half.to_str().expect("text")], 1, &format!("{out}: {NOT_THERE}"));
+}
+
+#[test]
+fn malformed_lines() {
+    let table = [
+        ("weigh 1 = 0", "no such call: weigh 1"),
+        ("", "no such call: "),
+        ("report 1 = 0", "no such call: report 1"),
+        ("make zz 1 = 0", "not hexadecimal bytes: zz"),
+        ("make 012 1 = 0", "not hexadecimal bytes: 012"),
+        ("make +1 1 = 0", "not hexadecimal bytes: +1"),
+        ("make é 1 = 0", "not hexadecimal bytes: é"),
+        ("make - 256 = 0", "not a station: 256"),
+        ("reading x 0 0 = 0", "not ELEC: x"),
+        ("reading 0 9223372036854775808 0 = 0", "not TEMP: 9223372036854775808"),
+        ("reading 0 0 -1 = 0", "not an integrity byte: -1"),
+        ("frame - x = 0", "not a room of 0 to 65535: x"),
+        ("frame - 99999999999999999999 = 0", "not a room of 0 to 65535: 99999999999999999999"),
+        ("write 1,x 9 = 0", "not a figure: x"),
+        ("write 1,2 9 = 0", "not 40 figures and 2 counts: 1,2"),
+    ];
+    for (i, (line, wrong)) in table.into_iter().enumerate() {
+        let path = place(&format!("malformed-{i}.txt"));
+        fs::write(&path, format!("scenario one\n{line}\n")).expect("written");
+        let path = path.to_str().expect("text");
+        fails(REPLAY, &[path], 1, &format!("{path}: line 2: {wrong}"));
+    }
+    let path = place("not-text.txt");
+    fs::write(&path, [0xff]).expect("written");
+    let path = path.to_str().expect("text");
+    fails(REPLAY, &[path], 1, &format!("{path}: stream did not contain valid UTF-8"));
+}
+
+#[test]
+fn a_difference_is_seen() {
+    let path = place("difference.txt");
+    fs::write(&path, "report = 9 00000000 00000000 00000000 00000000\n").expect("written");
+    let (code, said, wrong) = run(REPLAY, &[path.to_str().expect("text")], Stdio::null(), Stdio::piped());
+    assert_eq!((code, wrong.as_str()), (Some(1), ""));
+    assert!(said.starts_with("DIFFERENCE at line 1: report\n") && said.contains(" 1 differences\n"), "{said}");
+}
+
+#[test]
+fn bench_without_input_or_output() {
+    let folder = || File::open(env!("CARGO_TARGET_TMPDIR")).expect("opened").into();
+    let (code, _, said) = run(BENCH, &[], folder(), Stdio::piped());
+    assert_eq!((code, said.as_str()), (Some(1), "standard input: Is a directory (os error 21)\n"));
+    let full = File::options().write(true).open("/dev/full").expect("opened").into();
+    let (code, _, said) = run(BENCH, &[], Stdio::null(), full);
+    assert_eq!((code, said.as_str()), (Some(1), "standard output: No space left on device (os error 28)\n"));
+}
+
+#[test]
+fn the_folder_of_the_archive() {
+    let empty = place("no-archive");
+    fs::create_dir_all(&empty).expect("made");
+    let shown = empty.display().to_string();
+    let set = "BOARD_LIB_DIR is not set: the feature `archive` links libboard.a from that folder";
+    let table = [
+        (None, set.to_string()),
+        (Some(String::new()), set.to_string()),
+        (Some("nosuch".into()), "BOARD_LIB_DIR: nosuch is not a folder".into()),
+        (Some(shown.clone()), format!("BOARD_LIB_DIR: no libboard.a in {shown}; `rt staticlib board` writes it")),
+    ];
+    for (dir, wrong) in table {
+        assert_eq!(build::folder(dir.map(OsString::from)), Err(wrong));
+    }
+    let full = place("archive");
+    fs::create_dir_all(&full).expect("made");
+    fs::write(full.join("libboard.a"), "").expect("written");
+    assert_eq!(build::folder(Some(full.clone().into())), Ok(full));
+}
