@@ -13,9 +13,6 @@ use borrow.Author.Needs.{needs}
 use Rattle.sheet_writer.proofs.put_cell.Statement.{statement}
 use Rattle.sheet_writer.proofs.put_cell.Tie as tie
 
-put-four-requires : tie.Need-put-four-requires
-put-four-requires c κs = simp length-set (omega arith)
-
 same-length : tie.Need-same-length
 same-length c = c .before .before .put-four .kept .0 ∙ simp length-set
 
@@ -31,4 +28,4 @@ returns c =
 
 pub put-cell-spec : {M : Type 1} → statement M
 put-cell-spec =
-    tie.close (tie.spec (λ c. search needs) (λ c. search needs) put-four-requires same-length returns)
+    tie.close (tie.spec (λ c. search needs) (λ c. search needs) (λ c κs. simp length-set (omega arith)) same-length returns)

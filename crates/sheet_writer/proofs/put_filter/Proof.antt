@@ -13,9 +13,6 @@ use borrow.Author.Needs.{needs}
 use Rattle.sheet_writer.proofs.put_filter.Statement.{statement}
 use Rattle.sheet_writer.proofs.put_filter.Tie as tie
 
-put-figure-requires : tie.Need-put-figure-requires
-put-figure-requires c κs = simp length-set (omega arith)
-
 put-figure-requires-2 : tie.Need-put-figure-requires-2
 put-figure-requires-2 c κs = omega (arith, simp length-set at (c .before .before .before .before .put-figure .kept .0))
 
@@ -36,11 +33,5 @@ returns c =
 pub put-filter-spec : {M : Type 1} → statement M
 put-filter-spec =
     tie.close
-    (tie.spec
-    (λ c. search needs)
-    (λ c. search needs)
-    put-figure-requires
-    (λ c. search needs)
-    put-figure-requires-2
-    same-length
-    returns)
+    (tie.spec (λ c. search needs) (λ c. search needs) (λ c κs. simp length-set (omega arith)) (λ c. search needs)
+    put-figure-requires-2 same-length returns)

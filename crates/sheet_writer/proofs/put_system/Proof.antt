@@ -13,9 +13,6 @@ use borrow.Author.Needs.{needs}
 use Rattle.sheet_writer.proofs.put_system.Statement.{statement}
 use Rattle.sheet_writer.proofs.put_system.Tie as tie
 
-put-four-requires : tie.Need-put-four-requires
-put-four-requires c κs = simp length-set (omega arith)
-
 put-figure-requires : tie.Need-put-figure-requires
 put-figure-requires c κs = omega (arith, simp length-set at (c .before .before .before .before .put-four .kept .0))
 
@@ -39,11 +36,5 @@ returns c =
 pub put-system-spec : {M : Type 1} → statement M
 put-system-spec =
     tie.close
-    (tie.spec
-    (λ c. search needs)
-    (λ c. search needs)
-    put-four-requires
-    (λ c. search needs)
-    put-figure-requires
-    same-length
-    returns)
+    (tie.spec (λ c. search needs) (λ c. search needs) (λ c κs. simp length-set (omega arith)) (λ c. search needs)
+    put-figure-requires same-length returns)

@@ -29,9 +29,6 @@ loop-again c =
     let a = c .before .before .before .before .before .before .before .before .args in
     (reads (points-bytes-next noTemperature temperaturePointBytes (a .t3) (l .i)) (upto (omega arith) (l .inv .0 then (c .before .before .put-temperature-point .ensures))), omega arith)
 
-same-length : tie.Need-same-length Inv-loop μ-loop
-same-length c = size (c .before .loop .inv .0)
-
 returns : tie.Need-returns Inv-loop μ-loop
 returns c =
     let a = c .before .before .before .args in
@@ -41,17 +38,6 @@ returns c =
 pub put-temperature-points-spec : {M : Type 1} → statement M
 put-temperature-points-spec =
     tie.close
-    (tie.spec
-    Inv-loop
-    μ-loop
-    loop-holds
-    (λ c. omega arith)
-    (λ c. omega arith)
-    (λ c. omega arith)
-    (λ c. omega arith)
-    put-temperature-point-requires
-    (λ c. omega arith)
-    (λ c. omega arith)
-    loop-again
-    same-length
+    (tie.spec Inv-loop μ-loop loop-holds (λ c. omega arith) (λ c. omega arith) (λ c. omega arith) (λ c. omega arith)
+    put-temperature-point-requires (λ c. omega arith) (λ c. omega arith) loop-again (λ c. size (c .before .loop .inv .0))
     returns)

@@ -4,22 +4,9 @@ use borrow.Author.Needs.{needs}
 use Rattle.worked_table.proofs.print_row.Statement.{statement}
 use Rattle.worked_table.proofs.print_row.Tie as tie
 
-mul-interpolate-two : tie.Need-mul-interpolate-two
-mul-interpolate-two c = fits (search i64s depth 9) tt
-
 pub print-row-spec : {M : Type 1} → statement M
 print-row-spec =
     tie.close
-    (tie.spec
-    mul-interpolate-two
-    (λ c κs. search needs)
-    (λ c κs. search needs)
-    (λ c. search needs)
-    (λ c κs. search needs)
-    (λ c κs. search needs)
-    (λ c. search needs)
-    (λ c κs. search needs)
-    (λ c κs. search needs)
-    (λ c. search needs)
-    (λ c κs. search needs)
-    (λ c. search needs))
+    (tie.spec (λ c. fits (search i64s depth 9) tt) (λ c κs. search needs) (λ c κs. search needs) (λ c. search needs)
+    (λ c κs. search needs) (λ c κs. search needs) (λ c. search needs) (λ c κs. search needs) (λ c κs. search needs)
+    (λ c. search needs) (λ c κs. search needs) (λ c. search needs))

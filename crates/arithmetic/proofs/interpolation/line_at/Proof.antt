@@ -15,17 +15,11 @@ use Rattle.arithmetic.proofs.interpolation.line_at.Tie as tie
 t-in : (c : tie.Start) → (c .args .t) within (2 ^ 31)
 t-in c = within-between (c .pre .t₁-in) (c .pre .t₂-in) (<-≤ (c .pre .after)) (c .pre .upto)
 
-sub-round-div : tie.Need-sub-round-div
-sub-round-div c = fits (search i64s depth 9) tt
-
 sub-round-div-2 : tie.Need-sub-round-div-2
 sub-round-div-2 c = let t = t-in c in fits (search i64s depth 9) tt
 
 mul-round-div : tie.Need-mul-round-div
 mul-round-div c = let t = t-in c in fits (search i64s depth 9) tt
-
-sub-round-div-3 : tie.Need-sub-round-div-3
-sub-round-div-3 c = fits (search i64s depth 9) tt
 
 round-div-requires : tie.Need-round-div-requires
 round-div-requires c κs =
@@ -54,4 +48,4 @@ returns c = let h = result-in c in plain (search i64s depth 9) tt ∙ ap (λ (y 
 pub line-at-spec : {M : Type 1} → statement M
 line-at-spec =
     tie.close
-    (tie.spec sub-round-div sub-round-div-2 mul-round-div sub-round-div-3 round-div-requires add-result returns)
+    (tie.spec (λ c. fits (search i64s depth 9) tt) sub-round-div-2 mul-round-div (λ c. fits (search i64s depth 9) tt) round-div-requires add-result returns)

@@ -39,9 +39,6 @@ add-sum c = simp (toZ-ofZ, c .fits .a, c .fits .d, half-fits c) (sum-fits c)
 div-quotient : tie.Need-div-quotient
 div-quotient c = simp (toZ-ofZ, c .fits .a, c .fits .d, half-fits c, sum-fits c) (bits-pos w64 (c .pre .1 .0), quotient-fits c)
 
-rem-if1 : tie.Need-rem-if1
-rem-if1 c = div-quotient c
-
 down : (c : tie.Then1) → quotZ (c .before .args .a +ℤ shrZ (c .before .args .d) 2) (c .before .args .d) -ℤ pos 1 ≡ roundDiv (c .before .args .a) (c .before .args .d)
 down c =
     let s = c .before in
@@ -66,4 +63,4 @@ returns-2 c =
     (lt-no (simp (toZ-ofZ, s .fits .a, s .fits .d, half-fits s, sum-fits s, rem-fits (s .args .d) (sum-fits s)) at (c .if1 .left))))
 
 pub round-div-spec : {M : Type 1} → statement M
-round-div-spec = tie.close (tie.spec add-sum div-quotient rem-if1 sub-result returns returns-2)
+round-div-spec = tie.close (tie.spec add-sum div-quotient (λ c. div-quotient c) sub-result returns returns-2)

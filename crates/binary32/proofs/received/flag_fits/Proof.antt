@@ -15,9 +15,6 @@ use Rattle.binary32.proofs.received.flag_fits.Tie as tie
 in-word : (c : tie.Then2) → inWord (c .before .before .args .x) ≡ true
 in-word c = word-at (c .before .before .args .x) true true (c .before .if1 .taken) (c .if2 .taken)
 
-whole-part-requires : tie.Need-whole-part-requires
-whole-part-requires c κs = is-true (in-word c)
-
 returns : tie.Need-returns
 returns c =
     let x = c .before .before .before .before .args .x in
@@ -30,4 +27,4 @@ returns-3 : tie.Need-returns-3
 returns-3 c = let x = c .before .args .x in unfit x (word-at x false (le x (ofBits binary32 0x477F_FF00)) (c .if1 .left) refl)
 
 pub flag-fits-spec : {M : Type 1} → statement M
-flag-fits-spec = tie.close (tie.spec whole-part-requires (λ c. search needs) returns returns-2 returns-3)
+flag-fits-spec = tie.close (tie.spec (λ c κs. is-true (in-word c)) (λ c. search needs) returns returns-2 returns-3)

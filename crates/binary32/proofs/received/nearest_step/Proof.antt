@@ -20,9 +20,6 @@ use Rattle.binary32.proofs.received.nearest_step.Tie as tie
 held : (c : tie.Start) → T (fits binary32 (c .args .x))
 held c = subst T (sym (c .good .0 .1)) tt
 
-float-to-bits-bits : tie.Need-float-to-bits-bits
-float-to-bits-bits c = no-nan (c .args .x) (held c) (c .pre)
-
 cast-bits : tie.Need-cast-bits
 cast-bits c = omega (arith, bits-lt (c .args .x) (held c) (c .pre))
 
@@ -66,4 +63,4 @@ returns-3 c =
 pub nearest-step-spec : {M : Type 1} → statement M
 nearest-step-spec =
     tie.close
-    (tie.spec float-to-bits-bits cast-bits returns (λ c. search needs) shl-units cast-units add-result returns-2 sub-result returns-3)
+    (tie.spec (λ c. no-nan (c .args .x) (held c) (c .pre)) cast-bits returns (λ c. search needs) shl-units cast-units add-result returns-2 sub-result returns-3)

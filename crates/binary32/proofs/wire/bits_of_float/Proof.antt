@@ -19,8 +19,5 @@ returns : tie.Need-returns
 unfolding toBits
 returns c = sym (ap (toBits binary32) (differs-from-itself (c .before .args .x) (is-true (c .if1 .taken))))
 
-float-to-bits-result : tie.Need-float-to-bits-result
-float-to-bits-result c = no-nan (c .before .args .x) (c .if1 .left)
-
 pub bits-of-float-spec : {M : Type 1} → statement M
-bits-of-float-spec = tie.close (tie.spec returns float-to-bits-result (λ c. search needs))
+bits-of-float-spec = tie.close (tie.spec returns (λ c. no-nan (c .before .args .x) (c .if1 .left)) (λ c. search needs))

@@ -29,13 +29,5 @@ float-from-bits-result c = is-false (nanBits-above binary32 _ ∙ le-ltb _ _ (c 
 pub float-of-bytes-spec : {M : Type 1} → statement M
 float-of-bytes-spec =
     tie.close
-    (tie.spec
-    (λ c. search needs)
-    (λ c. search needs)
-    (λ c. search needs)
-    (λ c. search needs)
-    (λ c. search needs)
-    (λ c. search needs)
-    returns
-    float-from-bits-result
-    (λ c. search needs))
+    (tie.spec (λ c. search needs) (λ c. search needs) (λ c. search needs) (λ c. search needs) (λ c. search needs)
+    (λ c. search needs) returns float-from-bits-result (λ c. search needs))

@@ -75,9 +75,4 @@ returns c =
 pub values-from-spec : {M : Type 1} → statement M
 values-from-spec =
     tie.close
-    (tie.spec
-    scaled-system-requires
-    (λ c κs. search needs)
-    net-requires
-    (λ c κs. search needs)
-    returns)
+    (tie.spec scaled-system-requires (λ c κs. search needs) net-requires (λ c κs. search needs) returns)

@@ -52,22 +52,6 @@ returns c = let a = c .before .before .before .before .args in omega (arith, num
 pub four-at-spec : {M : Type 1} → statement M
 four-at-spec =
     tie.close
-    (tie.spec
-    (λ c. search needs)
-    cast-low
-    (λ c. search needs)
-    (λ c. search needs)
-    cast-low-2
-    mul-low
-    add-low-2
-    (λ c. search needs)
-    (λ c. search needs)
-    cast-result
-    mul-result
-    add-result-2
-    (λ c. search needs)
-    (λ c. search needs)
-    cast-result-2
-    mul-result-2
-    add-result-4
-    returns)
+    (tie.spec (λ c. search needs) cast-low (λ c. search needs) (λ c. search needs) cast-low-2 mul-low add-low-2
+    (λ c. search needs) (λ c. search needs) cast-result mul-result add-result-2 (λ c. search needs) (λ c. search needs)
+    cast-result-2 mul-result-2 add-result-4 returns)

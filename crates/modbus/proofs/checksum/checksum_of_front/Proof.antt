@@ -16,9 +16,6 @@ Inv-loop bytes count sum₀ i₀ sum i = (i ≤ count) × (sum ≡ checksumOf (t
 abbrev μ-loop : tie.MeasureT-loop
 μ-loop bytes count sum₀ i₀ sum i = count - i
 
-loop-holds : tie.Need-loop-holds Inv-loop μ-loop
-loop-holds c = (omega arith, refl)
-
 loop-again : tie.Need-loop-again Inv-loop μ-loop
 loop-again c =
     let a = c .before .before .before .before .args in
@@ -36,15 +33,5 @@ take-rest-requires c κs = let l = c .before .before .loop in (omega arith, omeg
 pub checksum-of-front-spec : {M : Type 1} → statement M
 checksum-of-front-spec =
     tie.close
-    (tie.spec
-    Inv-loop
-    μ-loop
-    loop-holds
-    (λ c. search needs)
-    (λ c κs. search needs)
-    (λ c. search needs)
-    (λ c. search needs)
-    loop-again
-    returns
-    take-rest-requires
-    (λ c. search needs))
+    (tie.spec Inv-loop μ-loop (λ c. (omega arith, refl)) (λ c. search needs) (λ c κs. search needs) (λ c. search needs)
+    (λ c. search needs) loop-again returns take-rest-requires (λ c. search needs))

@@ -35,17 +35,11 @@ two-or-none c =
     (λ w. (omega arith, omega arith, w .1 ∙ p .2 ∙ ap (λ (k : ℕ). checksumOf (take k (now (a .bytes)))) (sym (w .2))))
     (c .if2 .came)
 
-sub-if2 : tie.Need-sub-if2
-sub-if2 c = four-or-none (c .before) .0
-
 take-two-requires : tie.Need-take-two-requires
 take-two-requires c κs = omega (arith, four-or-none (c .before .before))
 
 add-i-2 : tie.Need-add-i-2
 add-i-2 c = omega (arith, four-or-none (c .before .before .before))
-
-take-byte-requires : tie.Need-take-byte-requires
-take-byte-requires c κs = omega (arith, two-or-none (c .before))
 
 returns : tie.Need-returns
 returns c =
@@ -65,13 +59,5 @@ returns-2 c =
 pub take-rest-spec : {M : Type 1} → statement M
 take-rest-spec =
     tie.close
-    (tie.spec
-    (λ c. search needs)
-    (λ c κs. search needs)
-    (λ c. search needs)
-    sub-if2
-    take-two-requires
-    add-i-2
-    take-byte-requires
-    returns
-    returns-2)
+    (tie.spec (λ c. search needs) (λ c κs. search needs) (λ c. search needs) (λ c. four-or-none (c .before) .0)
+    take-two-requires add-i-2 (λ c κs. omega (arith, two-or-none (c .before))) returns returns-2)

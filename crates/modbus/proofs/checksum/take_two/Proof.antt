@@ -37,13 +37,5 @@ returns c =
 pub take-two-spec : {M : Type 1} → statement M
 take-two-spec =
     tie.close
-    (tie.spec
-    (λ c. search needs)
-    (λ c. search needs)
-    cast-sixteen-shifts
-    mul-sixteen-shifts
-    (λ c. search needs)
-    cast-sixteen-shifts-2
-    add-sixteen-shifts-2
-    (λ c κs. search needs)
-    returns)
+    (tie.spec (λ c. search needs) (λ c. search needs) cast-sixteen-shifts mul-sixteen-shifts (λ c. search needs)
+    cast-sixteen-shifts-2 add-sixteen-shifts-2 (λ c κs. search needs) returns)

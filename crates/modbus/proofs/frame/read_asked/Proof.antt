@@ -53,12 +53,5 @@ returns-4 c =
 pub read-asked-spec : {M : Type 1} → statement M
 read-asked-spec =
     tie.close
-    (tie.spec
-    returns
-    (λ c κs. search needs)
-    returns-2
-    (λ c κs. search needs)
-    (λ c κs. search needs)
-    (λ c. search needs)
-    returns-3
-    returns-4)
+    (tie.spec returns (λ c κs. search needs) returns-2 (λ c κs. search needs) (λ c κs. search needs) (λ c. search needs)
+    returns-3 returns-4)

@@ -28,9 +28,6 @@ returns-5 : tie.Need-returns-5
 unfolding accessOf
 returns-5 c = let m = c .before .before .before .before .before in in-range Unlisted 100 77 26 tt (m .before .args .register) (omega arith) (omega arith) (m .match .rest .1)
 
-returns-6 : tie.Need-returns-6
-returns-6 c = beyond _ (omega arith)
-
 returns-7 : tie.Need-returns-7
 unfolding accessOf
 returns-7 c = ap accessOf (sym (c .match .keys4))
@@ -52,4 +49,4 @@ unfolding accessOf
 returns-11 c = let m = c .before .before .before .before in in-range ReadOnly 22 4 22 tt (m .before .args .register) (omega arith) (omega arith) (m .match .rest .0 .1)
 
 pub access-to-spec : {M : Type 1} → statement M
-access-to-spec = tie.close (tie.spec returns returns-2 returns-3 returns-4 returns-5 returns-6 returns-7 returns-8 returns-9 returns-10 returns-11)
+access-to-spec = tie.close (tie.spec returns returns-2 returns-3 returns-4 returns-5 (λ c. beyond _ (omega arith)) returns-7 returns-8 returns-9 returns-10 returns-11)

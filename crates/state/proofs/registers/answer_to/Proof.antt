@@ -15,26 +15,14 @@ use Rattle.state.proofs.registers.answer_to.Tie as tie
 by-case : (s : State) (sz : ℤ) {f g : Frame} {a : Answer} → f ≡ g → a ≡ answered s sz g → a ≡ answered s sz f
 by-case s sz e h = rw e h
 
-enum-known-frame : tie.Need-enum-known-frame
-enum-known-frame c = c .match .keys1
-
-enum-known-frame-2 : tie.Need-enum-known-frame-2
-enum-known-frame-2 c = c .match .keys2
-
 register-at-requires : tie.Need-register-at-requires
 register-at-requires c κs =
     let p = c .before .before .before .pre in
     record { readings-in = p .readings-in; sysn-in = p .sysn-in; sz-in = kept-within (p .sz-in) }
 
-enum-known-frame-3 : tie.Need-enum-known-frame-3
-enum-known-frame-3 c = c .match .keys3
-
 returns : tie.Need-returns
 unfolding answered
 returns c = by-case _ _ (c .before .before .frame3 .given .1) (simp (eq-eqb _ _ (c .if1 .taken)))
-
-enum-told : tie.Need-enum-told
-enum-told c = c .match .keys4
 
 returns-2 : tie.Need-returns-2
 unfolding answered
@@ -58,15 +46,5 @@ returns-5 c = by-case _ _ (c .enum-told .given .1) refl
 pub answer-to-spec : {M : Type 1} → statement M
 answer-to-spec =
     tie.close
-    (tie.spec
-    enum-known-frame
-    enum-known-frame-2
-    register-at-requires
-    enum-known-frame-3
-    returns
-    (λ c κs. tt)
-    enum-told
-    returns-2
-    returns-3
-    returns-4
-    returns-5)
+    (tie.spec (λ c. c .match .keys1) (λ c. c .match .keys2) register-at-requires (λ c. c .match .keys3) returns (λ c κs. tt)
+    (λ c. c .match .keys4) returns-2 returns-3 returns-4 returns-5)

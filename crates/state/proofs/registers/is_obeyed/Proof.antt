@@ -23,12 +23,6 @@ others r (Read n) h = refl
 others r (Write n x) h = absurd (miss (0 ∷ 1 ∷ []) 2 tt h)
 others r (Act n) h = absurd (miss (0 ∷ 1 ∷ []) 3 tt h)
 
-enum-told : tie.Need-enum-told
-enum-told c = c .match .keys1
-
-enum-known-frame : tie.Need-enum-known-frame
-enum-known-frame c = c .match .keys2
-
 returns : tie.Need-returns
 unfolding isObeyed
 returns c = by-case _ (c .before .before .frame .given .1) (simp (eq-eqb _ _ (c .if1 .taken)))
@@ -41,8 +35,5 @@ returns-3 : tie.Need-returns-3
 unfolding isObeyed
 returns-3 c = by-case _ (c .before .before .frame .given .1) (simp (ne-eqb _ _ (c .if1 .left)))
 
-returns-4 : tie.Need-returns-4
-returns-4 c = others _ _ (c .match .keys3)
-
 pub is-obeyed-spec : {M : Type 1} → statement M
-is-obeyed-spec = tie.close (tie.spec enum-told enum-known-frame returns returns-2 returns-3 returns-4)
+is-obeyed-spec = tie.close (tie.spec (λ c. c .match .keys1) (λ c. c .match .keys2) returns returns-2 returns-3 (λ c. others _ _ (c .match .keys3)))

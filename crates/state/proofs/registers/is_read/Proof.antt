@@ -18,9 +18,6 @@ others (Read r) h = absurd (miss (0 ∷ 2 ∷ 3 ∷ []) 1 tt h)
 others (Write r x) h = refl
 others (Act r) h = refl
 
-enum-told : tie.Need-enum-told
-enum-told c = c .match .keys1
-
 returns : tie.Need-returns
 unfolding isRead
 returns c = sym (ap isRead (c .enum-told .given .1))
@@ -29,4 +26,4 @@ returns-2 : tie.Need-returns-2
 returns-2 c = others (c .before .args .frame) (c .match .keys2)
 
 pub is-read-spec : {M : Type 1} → statement M
-is-read-spec = tie.close (tie.spec enum-told returns returns-2)
+is-read-spec = tie.close (tie.spec (λ c. c .match .keys1) returns returns-2)

@@ -3,9 +3,6 @@ use Rattle.state.specs.Register.{readingAt}
 use Rattle.state.proofs.registers.reading_at.Statement.{statement}
 use Rattle.state.proofs.registers.reading_at.Tie as tie
 
-reading-float-requires : tie.Need-reading-float-requires
-reading-float-requires c κs = c .before .pre
-
 returns : tie.Need-returns
 unfolding readingAt
 returns c = rw (c .reading-float .ensures, c .before .if1 .taken)
@@ -15,4 +12,4 @@ unfolding readingAt
 returns-2 c = rw (c .if1 .left)
 
 pub reading-at-spec : {M : Type 1} → statement M
-reading-at-spec = tie.close (tie.spec reading-float-requires returns returns-2)
+reading-at-spec = tie.close (tie.spec (λ c κs. c .before .pre) returns returns-2)

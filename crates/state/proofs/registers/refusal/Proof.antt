@@ -17,9 +17,6 @@ others (Read r) h = refl
 others (Write r x) h = refl
 others (Act r) h = refl
 
-enum-known-frame : tie.Need-enum-known-frame
-enum-known-frame c = c .match .keys1
-
 returns : tie.Need-returns
 unfolding refusalOf
 returns c = sym (ap refusalOf (c .before .frame .given .1))
@@ -28,4 +25,4 @@ returns-2 : tie.Need-returns-2
 returns-2 c = others (c .before .args .frame) (c .match .keys2)
 
 pub refusal-spec : {M : Type 1} → statement M
-refusal-spec = tie.close (tie.spec enum-known-frame returns returns-2)
+refusal-spec = tie.close (tie.spec (λ c. c .match .keys1) returns returns-2)

@@ -14,9 +14,6 @@ returns : tie.Need-returns
 unfolding registerAt
 returns c = simp (eq-eqb _ _ (c .before .if1 .taken)) (ap Value (c .float-of-whole .ensures))
 
-float-of-steps-requires : tie.Need-float-of-steps-requires
-float-of-steps-requires c κs = kept-within (c .before .before .pre .sz-in)
-
 returns-2 : tie.Need-returns-2
 unfolding registerAt
 returns-2 c =
@@ -57,15 +54,5 @@ returns-6 c =
 pub register-at-spec : {M : Type 1} → statement M
 register-at-spec =
     tie.close
-    (tie.spec
-    (λ c κs. tt)
-    returns
-    float-of-steps-requires
-    returns-2
-    float-of-steps-requires-2
-    returns-3
-    returns-4
-    (λ c κs. tt)
-    returns-5
-    reading-at-requires
-    returns-6)
+    (tie.spec (λ c κs. tt) returns (λ c κs. kept-within (c .before .before .pre .sz-in)) returns-2 float-of-steps-requires-2
+    returns-3 returns-4 (λ c κs. tt) returns-5 reading-at-requires returns-6)

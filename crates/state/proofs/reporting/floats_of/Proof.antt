@@ -12,9 +12,6 @@ built : (r : Readings) {s p t k : Float} → s ≡ stepFloat (r .values .sys) �
     → record { sys = s; peak = p; trof = t; cell = k } ≡ reportOf r
 built r s p t k = rw (s, p, t, k)
 
-float-of-steps-requires : tie.Need-float-of-steps-requires
-float-of-steps-requires c κs = kept-within (c .before .before .pre .sys-in)
-
 float-of-steps-requires-2 : tie.Need-float-of-steps-requires-2
 float-of-steps-requires-2 c κs = kept-within (c .before .before .before .before .pre .peak-in)
 
@@ -36,9 +33,5 @@ returns c =
 pub floats-of-spec : {M : Type 1} → statement M
 floats-of-spec =
     tie.close
-    (tie.spec
-    float-of-steps-requires
-    float-of-steps-requires-2
-    float-of-steps-requires-3
-    float-of-steps-requires-4
-    returns)
+    (tie.spec (λ c κs. kept-within (c .before .before .pre .sys-in)) float-of-steps-requires-2 float-of-steps-requires-3
+    float-of-steps-requires-4 returns)

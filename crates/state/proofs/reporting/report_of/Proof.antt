@@ -4,9 +4,6 @@ use Rattle.state.specs.Report.{reported}
 use Rattle.state.proofs.reporting.report_of.Statement.{statement}
 use Rattle.state.proofs.reporting.report_of.Tie as tie
 
-floats-of-requires : tie.Need-floats-of-requires
-floats-of-requires c κs = c .before .pre
-
 returns : tie.Need-returns
 unfolding reported
 returns c = rw (c .before .if1 .taken, c .floats-of .ensures)
@@ -16,4 +13,4 @@ unfolding reported ofInt ofBits
 returns-2 c = rw (c .if1 .left)
 
 pub report-of-spec : {M : Type 1} → statement M
-report-of-spec = tie.close (tie.spec floats-of-requires returns returns-2)
+report-of-spec = tie.close (tie.spec (λ c κs. c .before .pre) returns returns-2)

@@ -18,12 +18,6 @@ others (Read r) h = refl
 others (Write r x) h = absurd (miss (0 ∷ 1 ∷ []) 2 tt h)
 others (Act r) h = absurd (miss (0 ∷ 1 ∷ []) 3 tt h)
 
-enum-known-frame : tie.Need-enum-known-frame
-enum-known-frame c = c .match .keys1
-
-enum-told : tie.Need-enum-told
-enum-told c = c .match .keys2
-
 returns : tie.Need-returns
 unfolding changesState
 returns c = sym (ap changesState (c .before .frame .given .1))
@@ -36,4 +30,4 @@ returns-3 : tie.Need-returns-3
 returns-3 c = others (c .before .args .frame) (c .match .keys3)
 
 pub changes-state-spec : {M : Type 1} → statement M
-changes-state-spec = tie.close (tie.spec enum-known-frame enum-told returns returns-2 returns-3)
+changes-state-spec = tie.close (tie.spec (λ c. c .match .keys1) (λ c. c .match .keys2) returns returns-2 returns-3)

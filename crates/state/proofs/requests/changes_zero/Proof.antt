@@ -18,9 +18,6 @@ others (Read r) h = refl
 others (Write r x) h = absurd (miss (0 ∷ 1 ∷ 3 ∷ []) 2 tt h)
 others (Act r) h = refl
 
-enum-known-frame : tie.Need-enum-known-frame
-enum-known-frame c = c .match .keys1
-
 returns : tie.Need-returns
 unfolding changesZero
 returns c = sym (ap changesZero (c .before .frame .given .1))
@@ -29,4 +26,4 @@ returns-2 : tie.Need-returns-2
 returns-2 c = others (c .before .args .frame) (c .match .keys2)
 
 pub changes-zero-spec : {M : Type 1} → statement M
-changes-zero-spec = tie.close (tie.spec enum-known-frame returns returns-2)
+changes-zero-spec = tie.close (tie.spec (λ c. c .match .keys1) returns returns-2)

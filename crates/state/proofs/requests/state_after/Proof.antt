@@ -21,12 +21,6 @@ others s (Read r) h = refl
 others s (Write r x) h = absurd (miss (0 ∷ 1 ∷ []) 2 tt h)
 others s (Act r) h = absurd (miss (0 ∷ 1 ∷ []) 3 tt h)
 
-enum-known-frame : tie.Need-enum-known-frame
-enum-known-frame c = c .match .keys1
-
-enum-known-frame-2 : tie.Need-enum-known-frame-2
-enum-known-frame-2 c = c .match .keys2
-
 returns : tie.Need-returns
 unfolding stateBy
 returns c = by-case _ (c .before .before .frame .given .1) (c .write .ensures)
@@ -35,8 +29,5 @@ returns-2 : tie.Need-returns-2
 unfolding stateBy
 returns-2 c = by-case _ (c .before .before .frame2 .given .1) (c .act .ensures)
 
-returns-3 : tie.Need-returns-3
-returns-3 c = others _ _ (c .match .keys3)
-
 pub state-after-spec : {M : Type 1} → statement M
-state-after-spec = tie.close (tie.spec enum-known-frame (λ c κs. tt) enum-known-frame-2 (λ c κs. tt) returns returns-2 returns-3)
+state-after-spec = tie.close (tie.spec (λ c. c .match .keys1) (λ c κs. tt) (λ c. c .match .keys2) (λ c κs. tt) returns returns-2 (λ c. others _ _ (c .match .keys3)))

@@ -25,9 +25,6 @@ others sz (Read r) h e = e
 others sz (Write r x) h e = absurd (miss (0 ∷ 1 ∷ 3 ∷ []) 2 tt h)
 others sz (Act r) h e = e
 
-enum-known-frame : tie.Need-enum-known-frame
-enum-known-frame c = c .match .keys1
-
 returns : tie.Need-returns
 unfolding zeroBy
 returns c =
@@ -42,4 +39,4 @@ returns-3 : tie.Need-returns-3
 returns-3 c = others (c .before .args .sz) (c .before .args .frame) (c .match .keys2) (toZ-ofZ w64 _ (c .before .fits .sz))
 
 pub zero-after-spec : {M : Type 1} → statement M
-zero-after-spec = tie.close (tie.spec enum-known-frame returns (λ c κs. tt) returns-2 returns-3)
+zero-after-spec = tie.close (tie.spec (λ c. c .match .keys1) returns (λ c κs. tt) returns-2 returns-3)

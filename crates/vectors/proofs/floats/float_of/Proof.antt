@@ -12,10 +12,4 @@ returns c = c .float-of-bytes .ensures ∙ ap (ofBits binary32) (omega arith)
 pub float-of-spec : {M : Type 1} → statement M
 float-of-spec =
     tie.close
-    (tie.spec
-    (λ c. search needs)
-    (λ c. search needs)
-    (λ c. search needs)
-    (λ c. search needs)
-    (λ c κs. search needs)
-    returns)
+    (tie.spec (λ c. search needs) (λ c. search needs) (λ c. search needs) (λ c. search needs) (λ c κs. search needs) returns)

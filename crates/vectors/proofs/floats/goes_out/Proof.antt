@@ -29,10 +29,5 @@ expect-requires c κs =
 pub goes-out-spec : {M : Type 1} → statement M
 goes-out-spec =
     tie.close
-    (tie.spec
-    float-of-steps-requires
-    (λ c κs. search needs)
-    (λ c κs. search needs)
-    (λ c κs. search needs)
-    expect-requires
+    (tie.spec float-of-steps-requires (λ c κs. search needs) (λ c κs. search needs) (λ c κs. search needs) expect-requires
     (λ c. search needs))

@@ -16,11 +16,5 @@ expect-requires-2 c κs =
 pub write-is-spec : {M : Type 1} → statement M
 write-is-spec =
     tie.close
-    (tie.spec
-    (λ c. search needs)
-    (λ c κs. search needs)
-    expect-requires
-    (λ c. search needs)
-    (λ c κs. search needs)
-    expect-requires-2
-    (λ c. search needs))
+    (tie.spec (λ c. search needs) (λ c κs. search needs) expect-requires (λ c. search needs) (λ c κs. search needs)
+    expect-requires-2 (λ c. search needs))
