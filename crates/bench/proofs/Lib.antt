@@ -1,4 +1,6 @@
 mod Digits
 mod Puts
 mod Lines
-pub mod Chunks
+mod Turns
+mod Chunks
+pub mod Pieces

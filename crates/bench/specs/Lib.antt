@@ -1,2 +1,4 @@
 pub mod Text
 pub mod Run
+pub mod Turn
+pub mod Pieces
