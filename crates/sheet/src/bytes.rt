@@ -4,9 +4,9 @@ ghost use Prim.Native.Nat.{_+_, _≤_};
 ghost use lib.ListN.{length, take, drop};
 ghost use Rattle.integers.specs.Bytes.{signedOf};
 ghost use Rattle.sheet.specs.Bytes.{wordOf, countAt, figureAt, unsignedOf};
-ghost use Rattle.sheet.specs.Step.{countStep, figureStep};
-use crate::CountStep;
-use crate::FigureStep;
+ghost use Rattle.sheet.specs.Step.{countFound, figureFound};
+use crate::CountFound;
+use crate::FigureFound;
 use integers::bytes::four_at;
 
 // The count at a place; 0 past the end.
@@ -64,17 +64,17 @@ pub fn unsigned(v: i64) -> u64
 }
 
 // The count at a place and the place after it; or 1.
-pub fn next_count(s: &[u8], at: usize) -> CountStep
-    ensures { λ r. ⌜ r ≡ countStep (now (s .entry)) at ⌝ }
+pub fn next_count(s: &[u8], at: usize) -> CountFound
+    ensures { λ r. ⌜ r ≡ countFound (now (s .entry)) at ⌝ }
 {
     if s.len() <= at {
-        return CountStep {
+        return CountFound {
             number: 1,
             value: 0,
             at,
         };
     }
-    CountStep {
+    CountFound {
         number: 0,
         value: s[at],
         at: at + 1,
@@ -82,25 +82,25 @@ pub fn next_count(s: &[u8], at: usize) -> CountStep
 }
 
 // The figure at a place and the place after it; or 1.
-pub fn next_figure(s: &[u8], at: usize) -> FigureStep
-    ensures { λ r. ⌜ r ≡ figureStep (now (s .entry)) at ⌝ }
+pub fn next_figure(s: &[u8], at: usize) -> FigureFound
+    ensures { λ r. ⌜ r ≡ figureFound (now (s .entry)) at ⌝ }
 {
     if s.len() < 8 {
-        return FigureStep {
+        return FigureFound {
             number: 1,
             value: 0,
             at,
         };
     }
     if s.len() - 8 < at {
-        return FigureStep {
+        return FigureFound {
             number: 1,
             value: 0,
             at,
         };
     }
     let value = figure_at(s, at);
-    FigureStep {
+    FigureFound {
         number: 0,
         value,
         at: at + 8,

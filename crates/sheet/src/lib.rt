@@ -22,17 +22,17 @@ pub struct Sheet {
     pub figures: Calibration,
 }
 
-// A count read and the place after it, and 0; or 1, where the sheet ends before, and the place kept.
+// A count found at a place and the place after it, and 0; or 1, where the sheet ends before, and the place kept.
 #[repr(C)]
-pub struct CountStep {
+pub struct CountFound {
     pub number: u8,
     pub value: u8,
     pub at: usize,
 }
 
-// A figure read and the place after it, and 0; or 1, where the sheet ends before, and the place kept.
+// A figure found at a place, likewise.
 #[repr(C)]
-pub struct FigureStep {
+pub struct FigureFound {
     pub number: u8,
     pub value: i64,
     pub at: usize,
@@ -44,6 +44,20 @@ pub struct Cursor<'a> {
     pub at: usize,
 }
 
+// A count read and the cursor to go on with, and 0; or 1, where the sheet ends before, and the cursor handed in.
+pub struct CountStep<'a> {
+    pub number: u8,
+    pub value: u8,
+    pub next: Cursor<'a>,
+}
+
+// A figure read, likewise.
+pub struct FigureStep<'a> {
+    pub number: u8,
+    pub value: i64,
+    pub next: Cursor<'a>,
+}
+
 // At the sheet's first byte.
 pub fn start<'a>(sheet: &'a [u8]) -> Cursor<'a>
     ensures { λ r. ⌜ (r .sheet ≡ sheet .entry) × (r .at ≡ 0) ⌝ }
@@ -51,16 +65,32 @@ pub fn start<'a>(sheet: &'a [u8]) -> Cursor<'a>
     Cursor { sheet, at: 0 }
 }
 
-// The count that stands where the cursor is; a caller goes on from the place that is given.
-pub fn count<'a>(c: Cursor<'a>) -> CountStep
-    ensures { λ r. ⌜ r ≡ countStep (now (c .entry .sheet)) (c .entry .at) ⌝ }
+// The count that stands where the cursor is.
+pub fn count<'a>(c: Cursor<'a>) -> CountStep<'a>
+    ensures { λ r. ⌜ r ≡ countStep (c .entry) ⌝ }
 {
-    next_count(c.sheet, c.at)
+    let found = next_count(c.sheet, c.at);
+    CountStep {
+        number: found.number,
+        value: found.value,
+        next: Cursor {
+            sheet: c.sheet,
+            at: found.at,
+        },
+    }
 }
 
-// The figure that stands there, likewise.
-pub fn figure<'a>(c: Cursor<'a>) -> FigureStep
-    ensures { λ r. ⌜ r ≡ figureStep (now (c .entry .sheet)) (c .entry .at) ⌝ }
+// The figure that stands where the cursor is.
+pub fn figure<'a>(c: Cursor<'a>) -> FigureStep<'a>
+    ensures { λ r. ⌜ r ≡ figureStep (c .entry) ⌝ }
 {
-    next_figure(c.sheet, c.at)
+    let found = next_figure(c.sheet, c.at);
+    FigureStep {
+        number: found.number,
+        value: found.value,
+        next: Cursor {
+            sheet: c.sheet,
+            at: found.at,
+        },
+    }
 }

@@ -1,6 +1,6 @@
 -- The figure where all its bytes are there, and 1 where they are not. Assumes nothing.
 use Prim.Native.Nat.{_+_, _<_, _≤_}
-use Rattle.sheet.specs.Step.{figureStep}
+use Rattle.sheet.specs.Step.{figureFound}
 use borrow.Author.Tests.{le-ltb, lt-ltb}
 use lib.ListN.{length}
 use mathlib.Core.Path.{_∙_, _≡_}
@@ -12,21 +12,21 @@ use Rattle.sheet.proofs.bytes.next_figure.Statement.{statement}
 use Rattle.sheet.proofs.bytes.next_figure.Tie as tie
 
 returns : tie.Need-returns
-unfolding figureStep
+unfolding figureFound
 returns c =
     let a = c .before .before .args in
     let h : length (a .s .now) < a .at + 8 = omega arith in
     simp (lt-ltb _ _ h)
 
 returns-2 : tie.Need-returns-2
-unfolding figureStep
+unfolding figureFound
 returns-2 c =
     let a = c .before .before .before .args in
     let h : length (a .s .now) < a .at + 8 = omega arith in
     simp (lt-ltb _ _ h)
 
 returns-3 : tie.Need-returns-3
-unfolding figureStep
+unfolding figureFound
 returns-3 c =
     let a = c .before .before .before .before .args in
     let h : a .at + 8 ≤ length (a .s .now) = omega arith in
