@@ -17,4 +17,5 @@ pub mod Theorems
 pub mod Range
 pub mod Edges
 mod DefaultBytes
+mod Gives
 mod Apart

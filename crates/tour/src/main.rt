@@ -6,6 +6,7 @@ ghost use Rattle.converter.specs.Call.{reading, frame};
 ghost use Rattle.converter.specs.Reached.{Reached, Making};
 ghost use Rattle.tour.specs.Next.{Next};
 
+mod contents;
 mod lines;
 
 use converter::Device;
