@@ -75,7 +75,7 @@ front-bytes (suc n) [] h i = h i
 front-bytes (suc n) (b ∷ l) h zero = h 0
 front-bytes (suc n) (b ∷ l) h (suc i) = front-bytes n l (λ j. h (suc j)) i
 
-there-is : (s : List ℕ) (p : ℕ) → p + 8 ≤ length s → figureAt s p ≡ signedOf 64 (wordOf (take 8 (drop p s)))
+pub there-is : (s : List ℕ) (p : ℕ) → p + 8 ≤ length s → figureAt s p ≡ signedOf 64 (wordOf (take 8 (drop p s)))
 unfolding figureAt
 there-is s p h = simp (le-leb _ _ h)
 

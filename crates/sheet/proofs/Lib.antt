@@ -19,3 +19,6 @@ pub mod Edges
 mod DefaultBytes
 mod Gives
 mod Apart
+pub mod Steps
+pub mod Gives
+pub mod Apart
