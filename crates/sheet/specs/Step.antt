@@ -7,7 +7,7 @@ use Prim.Native.Nat.{ℕ, _+_, _<_, _≤_}
 use lib.Dec.{ltb}
 use lib.IntN.{pos}
 use lib.ListN.{length, take, drop}
-use denote.Ref.{now}
+use denote.Ref.{RefT, now}
 use Rattle.integers.specs.Bytes.{wordOf, signedOf}
 use Rattle.sheet.specs.Bytes.{countAt, figureAt}
 use Rattle.sheet.specs.declared.CountFound.{CountFound}
@@ -23,6 +23,10 @@ countFound s at = cond (ltb at (length s)) (record { number = 0; value = countAt
 -- 0, the figure and the place after it; or 1, where the sheet ends before
 unfoldable pub figureFound : List ℕ → ℕ → FigureFound
 figureFound s at = cond (ltb (length s) (at + 8)) (record { number = 1; value = pos 0; at = at }) (record { number = 0; value = figureAt s at; at = at + 8 })
+
+-- at the sheet's first byte
+abbrev pub started : RefT (List ℕ) → Cursor
+started sheet = record { sheet = sheet; at = 0 }
 
 -- the cursor at another place of its sheet
 abbrev pub moved : Cursor → ℕ → Cursor

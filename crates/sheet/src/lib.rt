@@ -1,6 +1,6 @@
 // The calibration sheet (01, "The calibration sheet"): bytes to figures, and the judgement of figures. `sheet_writer` writes one.
 ghost use mathlib.Core.Path.{_≡_};
-ghost use Rattle.sheet.specs.Step.{countStep, figureStep};
+ghost use Rattle.sheet.specs.Step.{started, countStep, figureStep};
 
 mod bytes;
 mod judgement;
@@ -60,7 +60,7 @@ pub struct FigureStep<'a> {
 
 // At the sheet's first byte.
 pub fn start<'a>(sheet: &'a [u8]) -> Cursor<'a>
-    ensures { λ r. ⌜ (r .sheet ≡ sheet .entry) × (r .at ≡ 0) ⌝ }
+    ensures { λ r. ⌜ r ≡ started (sheet .entry) ⌝ }
 {
     Cursor { sheet, at: 0 }
 }

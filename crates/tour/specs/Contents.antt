@@ -8,4 +8,4 @@ use Rattle.sheet.specs.Read.{cellAt}
 use Rattle.tour.specs.declared.contents.CellSection.{CellSection}
 
 unfoldable pub cellSection : List ℕ → CellSection
-cellSection s = record { number = shortOf (length s) 33; count = countAt s 0; cell = cellAt s 0; at = 33 }
+cellSection s = record { number = shortOf (length s) 33; count = countAt s 0; cell = cellAt s 0 }

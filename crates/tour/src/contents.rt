@@ -7,15 +7,15 @@ use sheet::Cursor;
 use sheet::CountFound;
 use sheet::FigureFound;
 
-// The cell section and the place after it, and 0; or 1, where the sheet ends before, and 0 for what is missing.
+// The cell section, and 0; or 1, where the sheet ends before, and 0 for what is missing.
 pub(crate) struct CellSection {
     pub number: u8,
     pub count: u8,
     pub cell: Cell,
-    pub at: usize,
 }
 
-// From the sheet's first byte: a count, and four figures, each step from where the last has got.
+// From the sheet's first byte: a count, and four figures, each from where the step before has got. A refused step gives its cursor
+// back, so that the steps after it are refused too: the last one's number is that of all.
 pub(crate) fn cell_section(sheet: &[u8]) -> CellSection
     ensures { λ r. ⌜ r ≡ cellSection (now (sheet .entry)) ⌝ }
 {
@@ -33,7 +33,6 @@ pub(crate) fn cell_section(sheet: &[u8]) -> CellSection
             cmin: cmin.value,
             cmax: cmax.value,
         },
-        at: cmax.next.at,
     }
 }
 
