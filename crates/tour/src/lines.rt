@@ -36,6 +36,28 @@ pub(crate) fn print_float(x: f32) {
     io::print_hex(STDOUT_FILENO, f32::to_bits(x) as u64, 8);
 }
 
+// A section's count; its figures follow.
+pub(crate) fn print_count(count: u8) {
+    io::write_all(STDOUT_FILENO, b", ");
+    io::print_decimal(STDOUT_FILENO, wide(count));
+    io::write_all(STDOUT_FILENO, b":");
+}
+
+// A figure, in decimal.
+pub(crate) fn print_signed(n: i64) {
+    io::write_all(STDOUT_FILENO, b" ");
+    if n < 0 {
+        io::write_all(STDOUT_FILENO, b"-");
+    }
+    io::print_decimal(STDOUT_FILENO, arithmetic::magnitude(n));
+}
+
+// The number of a refusal, in the place of a figure.
+pub(crate) fn print_refused(number: u8) {
+    io::write_all(STDOUT_FILENO, b" refused ");
+    io::print_decimal(STDOUT_FILENO, wide(number));
+}
+
 pub(crate) fn end_line() {
     io::write_all(STDOUT_FILENO, b"\n");
 }

@@ -8,6 +8,7 @@ ghost use Rattle.tour.specs.Next.{Next};
 
 mod contents;
 mod lines;
+mod sections;
 
 use converter::Device;
 use converter::Outcome;
@@ -35,7 +36,16 @@ fn make_device() -> Outcome
     lines::print_call(b"sheet_writer::write", b"default figures", written.number);
     lines::print_length(length);
     lines::end_line();
-    let made = Device::make(&buffer[..length], 52);
+    device_of(&buffer[..length])
+}
+
+// The sheet read by its cursor, and so much as 9 bytes hold of another, a count and a figure; then a device of it.
+fn device_of(sheet: &[u8]) -> Outcome
+    ensures { λ r. ⌜ Making (now (sheet .entry)) 52 r ⌝ }
+{
+    sections::print_sheet(sheet);
+    sections::print_cell(b"cell, 9 bytes", b"\x04\x07\x00\x00\x00\x00\x00\x00\x00");
+    let made = Device::make(sheet, 52);
     lines::print_call(b"Device::make", b"station 52", made.number);
     lines::end_line();
     made

@@ -49,13 +49,12 @@ module _ (c : tie.After-write) where
 array-share-prefix-buffer : tie.Need-array-share-prefix-buffer
 array-share-prefix-buffer c = fronted (c .before .before .before .before .before .before) .fits
 
-slice-aggregate-make : tie.Need-slice-aggregate-make
-slice-aggregate-make c = let w = c .before .before .before .before .before .before .before in sym (length-take-le _ _ (fronted w .fits))
+slice-aggregate-device-of : tie.Need-slice-aggregate-device-of
+slice-aggregate-device-of c = let w = c .before .before .before .before .before .before .before in sym (length-take-le _ _ (fronted w .fits))
 
 returns : tie.Need-returns
 returns c =
-    let m = c .before .before .before .before in
-    subst (λ (s : List ℕ). Making s 52 (m .make .result)) (fronted (m .before .before .before .before .before .before .before .before) .is) (m .make .ensures)
+    subst (λ (s : List ℕ). Making s 52 (c .device-of .result)) (fronted (c .before .before .before .before .before .before .before .before) .is) (c .device-of .ensures)
 
 pub make-device-spec : {M : Type 1} → statement M
 make-device-spec =
@@ -70,10 +69,6 @@ make-device-spec =
     (λ c κs. search needs)
     (λ c κs. search needs)
     array-share-prefix-buffer
-    slice-aggregate-make
-    (λ c κs. search needs)
-    (λ c. search needs)
-    (λ c. search needs)
-    (λ c κs. search needs)
+    slice-aggregate-device-of
     (λ c κs. search needs)
     returns)
