@@ -20,10 +20,6 @@ pub then-zero : (a : ℕ) → a then 0 ≡ a
 then-zero zero = refl
 then-zero (suc a) = refl
 
-pub then-assoc : (a b d : ℕ) → (a then b) then d ≡ a then (b then d)
-then-assoc zero b d = refl
-then-assoc (suc a) b d = refl
-
 pub both : {a b : ℕ} → a ≡ 0 → b ≡ 0 → a then b ≡ 0
 both {a} {b} e h = rw e h
 

@@ -40,5 +40,7 @@ pub record Edges : Type 0 where
   pub left-to-right : sheetNumber (take 100 (set bytes 8 1)) ≡ 3
 
 pub edges : Edges
-unfolding sheetNumber sectionsNumber cellNumber temperatureNumber temperaturePointNumber linearityNumber linearityPointNumber systemNumber filterNumber shortOf wrongCount beyond notBelow tooSteep trailing figuresOf cellAt temperatureAt temperaturePointAt linearityAt linearityPointAt systemAt filterAt figureAt signedOf sheetBytes cellBytes temperatureBytes linearityBytes systemBytes filterBytes temperaturePointBytes linearityPointBytes figureBytes defaultSheet
+unfolding sheetNumber sectionsNumber cellNumber temperatureNumber temperaturePointNumber linearityNumber linearityPointNumber systemNumber filterNumber shortOf wrongCount beyond notBelow tooSteep trailing
+    figuresOf cellAt temperatureAt temperaturePointAt linearityAt linearityPointAt systemAt filterAt figureAt signedOf
+    sheetBytes cellBytes temperatureBytes linearityBytes systemBytes filterBytes temperaturePointBytes linearityPointBytes figureBytes defaultSheet
 edges = record { two-and-two = refl; accepted = refl; short = refl; trailing-byte = refl; one-point = refl; figure = refl; order = refl; crossed = refl; gentle = refl; steep = refl; left-to-right = refl }

@@ -20,7 +20,8 @@ use Rattle.figures.specs.declared.Linearity.{Linearity}
 use Rattle.figures.specs.declared.System.{System}
 use Rattle.figures.specs.declared.Filter.{Filter}
 use Rattle.figures.specs.declared.Calibration.{Calibration}
-use Rattle.sheet.specs.Judge.{_then_, shortOf, never, wrongCount, beyond, notBelow, tooSteep, trailing, pointsNumber, against, countNumber, rangeNumber, figureNumber, cellNumber, temperaturePointNumber, temperatureNumber, linearityPointNumber, linearityNumber, systemNumber, filterNumber, linearityStart, systemStart, filterStart, sectionsNumber, figuresNumber}
+use Rattle.sheet.specs.Judge.{_then_, shortOf, never, wrongCount, beyond, notBelow, tooSteep, trailing, pointsNumber, against,
+  countNumber, rangeNumber, figureNumber, cellNumber, temperaturePointNumber, temperatureNumber, linearityPointNumber, linearityNumber, systemNumber, filterNumber, linearityStart, systemStart, filterStart, sectionsNumber, figuresNumber}
 use Rattle.sheet.specs.Read.{figuresOf, systemPlace, sheetNumber}
 use Rattle.sheet.specs.Bytes.{countAt}
 
@@ -70,7 +71,8 @@ module _ (P : ℕ → Type 0) where
       temperature-point-keeps : (at : ℕ) (ps : List TemperaturePoint) (i : ℕ) → P (temperaturePointNumber short at ps i)
       unfolding temperaturePointNumber
       temperature-point-keeps at ps i =
-          keep (figure-keeps (at) ctMost (getD ps i noTemperature .ct)) (keep (against-keeps noTemperature (λ p q. notBelow 4 (p .ct) (q .ct)) ps i (λ p q. below-keeps 4 (p .ct) (q .ct) four)) (keep (figure-keeps (at + 8) ctoMost (getD ps i noTemperature .cto)) (figure-keeps (at + 16) ctgMost (getD ps i noTemperature .ctg))))
+          keep (figure-keeps (at) ctMost (getD ps i noTemperature .ct)) (keep (against-keeps noTemperature (λ p q. notBelow 4 (p .ct) (q .ct)) ps i (λ p q. below-keeps 4 (p .ct) (q .ct) four))
+          (keep (figure-keeps (at + 8) ctoMost (getD ps i noTemperature .cto)) (figure-keeps (at + 16) ctgMost (getD ps i noTemperature .ctg))))
 
       temperature-keeps : (at : ℕ) (t : Temperature) → P (temperatureNumber short at t)
       unfolding temperatureNumber
@@ -80,7 +82,9 @@ module _ (P : ℕ → Type 0) where
       linearity-point-keeps : (at : ℕ) (ps : List LinearityPoint) (i : ℕ) → P (linearityPointNumber short at ps i)
       unfolding linearityPointNumber
       linearity-point-keeps at ps i =
-          keep (figure-keeps (at) clxMost (getD ps i noLinearity .clx)) (keep (against-keeps noLinearity (λ p q. notBelow 4 (p .clx) (q .clx)) ps i (λ p q. below-keeps 4 (p .clx) (q .clx) four)) (keep (figure-keeps (at + 8) clkMost (getD ps i noLinearity .clk)) (against-keeps noLinearity tooSteep ps i steep-keeps)))
+          keep (figure-keeps (at) clxMost (getD ps i noLinearity .clx))
+          (keep (against-keeps noLinearity (λ p q. notBelow 4 (p .clx) (q .clx)) ps i (λ p q. below-keeps 4 (p .clx) (q .clx) four))
+          (keep (figure-keeps (at + 8) clkMost (getD ps i noLinearity .clk)) (against-keeps noLinearity tooSteep ps i steep-keeps)))
 
       linearity-keeps : (at : ℕ) (l : Linearity) → P (linearityNumber short at l)
       unfolding linearityNumber
@@ -90,7 +94,8 @@ module _ (P : ℕ → Type 0) where
       system-keeps : (at n : ℕ) (s : System) → P (systemNumber short at n s)
       unfolding systemNumber
       system-keeps at n s =
-          keep (count-keeps at 5 5 n) (keep (figure-keeps (at + 1) sofsMost (s .sofs)) (keep (figure-keeps (at + 9) sgaiMost (s .sgai)) (keep (figure-keeps (at + 17) systemMost (s .smin)) (keep (figure-keeps (at + 25) systemMost (s .smax)) (keep (below-keeps 6 (s .smin) (s .smax) six) (figure-keeps (at + 33) szMost (s .sz)))))))
+          keep (count-keeps at 5 5 n) (keep (figure-keeps (at + 1) sofsMost (s .sofs)) (keep (figure-keeps (at + 9) sgaiMost (s .sgai)) (keep (figure-keeps (at + 17) systemMost (s .smin))
+          (keep (figure-keeps (at + 25) systemMost (s .smax)) (keep (below-keeps 6 (s .smin) (s .smax) six) (figure-keeps (at + 33) szMost (s .sz)))))))
 
       filter-keeps : (at n : ℕ) (f : Filter) → P (filterNumber short at n f)
       unfolding filterNumber

@@ -15,7 +15,9 @@ returns c =
     let s = c .before .before .before .before .before .before .before .before .before .before in
     let b1 : toZ w64 (ofZ w64 (getD (s .args .t3) (s .args .i) noLinearity .clx)) ≡ getD (s .args .t3) (s .args .i) noLinearity .clx = search needs in
     let b2 : toZ w64 (ofZ w64 (getD (s .args .t3) (s .args .i) noLinearity .clk)) ≡ getD (s .args .t3) (s .args .i) noLinearity .clk = search needs in
-    c .first3 .ensures ∙ ap₂ _then_ (rw b1 at (c .before .before .before .before .before .before .before .figure-number .ensures)) (c .before .first2 .ensures ∙ ap₂ _then_ (c .before .before .before .before .before .before .linearity-rise .ensures) (c .before .before .first .ensures ∙ ap₂ _then_ (rw b2 at (c .before .before .before .before .figure-number2 .ensures)) (c .before .before .before .linearity-steep .ensures)))
+    c .first3 .ensures ∙ ap₂ _then_ (rw b1 at (c .before .before .before .before .before .before .before .figure-number .ensures))
+    (c .before .first2 .ensures ∙ ap₂ _then_ (c .before .before .before .before .before .before .linearity-rise .ensures) (c .before .before .first .ensures ∙ ap₂ _then_
+    (rw b2 at (c .before .before .before .before .figure-number2 .ensures)) (c .before .before .before .linearity-steep .ensures)))
 
 pub linearity-point-number-spec : {M : Type 1} → statement M
 linearity-point-number-spec =

@@ -16,7 +16,9 @@ returns c =
     let b1 : toZ w64 (ofZ w64 (getD (s .args .t3) (s .args .i) noTemperature .ct)) ≡ getD (s .args .t3) (s .args .i) noTemperature .ct = search needs in
     let b2 : toZ w64 (ofZ w64 (getD (s .args .t3) (s .args .i) noTemperature .cto)) ≡ getD (s .args .t3) (s .args .i) noTemperature .cto = search needs in
     let b3 : toZ w64 (ofZ w64 (getD (s .args .t3) (s .args .i) noTemperature .ctg)) ≡ getD (s .args .t3) (s .args .i) noTemperature .ctg = search needs in
-    c .first3 .ensures ∙ ap₂ _then_ (rw b1 at (c .before .before .before .before .before .before .before .before .figure-number .ensures)) (c .before .first2 .ensures ∙ ap₂ _then_ (c .before .before .before .before .before .before .before .temperature-rise .ensures) (c .before .before .first .ensures ∙ ap₂ _then_ (rw b2 at (c .before .before .before .before .before .figure-number2 .ensures)) (rw b3 at (c .before .before .before .figure-number3 .ensures))))
+    c .first3 .ensures ∙ ap₂ _then_ (rw b1 at (c .before .before .before .before .before .before .before .before .figure-number .ensures))
+    (c .before .first2 .ensures ∙ ap₂ _then_ (c .before .before .before .before .before .before .before .temperature-rise .ensures) (c .before .before .first .ensures ∙ ap₂ _then_
+    (rw b2 at (c .before .before .before .before .before .figure-number2 .ensures)) (rw b3 at (c .before .before .before .figure-number3 .ensures))))
 
 pub temperature-point-number-spec : {M : Type 1} → statement M
 temperature-point-number-spec =

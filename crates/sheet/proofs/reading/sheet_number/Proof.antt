@@ -11,7 +11,11 @@ use borrow.Author.Needs.{needs}
 use Rattle.sheet.proofs.reading.sheet_number.Statement.{statement}
 use Rattle.sheet.proofs.reading.sheet_number.Tie as tie
 
-sections : (c : tie.After-sections-number) → c .sections-number .result ≡ sectionsNumber (shortOf (length (c .before .before .before .before .before .before .args .s .now))) (countAt (c .before .before .before .before .before .before .args .s .now) 0) (countAt (c .before .before .before .before .before .before .args .s .now) (systemPlace (c .before .before .before .before .before .before .args .s .now))) (countAt (c .before .before .before .before .before .before .args .s .now) (systemPlace (c .before .before .before .before .before .before .args .s .now) + 41)) (figuresOf (c .before .before .before .before .before .before .args .s .now))
+sections : (c : tie.After-sections-number) → c .sections-number .result ≡ sectionsNumber (shortOf (length (c .before .before .before .before .before .before .args .s .now)))
+    (countAt (c .before .before .before .before .before .before .args .s .now) 0)
+    (countAt (c .before .before .before .before .before .before .args .s .now) (systemPlace (c .before .before .before .before .before .before .args .s .now)))
+    (countAt (c .before .before .before .before .before .before .args .s .now) (systemPlace (c .before .before .before .before .before .before .args .s .now) + 41))
+    (figuresOf (c .before .before .before .before .before .before .args .s .now))
 sections c =
     let p = c .before .before .before .before .system-place .ensures .0 in
     let a = c .before .before .before .count-at .ensures in
