@@ -1,5 +1,5 @@
 -- The sheet cursor (01, "The calibration sheet"): "A sheet cursor refers to the lent sheet itself and knows how far it has got."
--- A step is told first by slice and offset, then of the cursor.
+-- A step is told first by slice and offset, as the code takes it, then of the cursor.
 use mathlib.Core.Path.{_≡_}
 use mathlib.Core.Bool.{cond}
 use mathlib.Core.List.{List}
@@ -16,11 +16,11 @@ use Rattle.sheet.specs.declared.Cursor.{Cursor}
 use Rattle.sheet.specs.declared.CountStep.{CountStep}
 use Rattle.sheet.specs.declared.FigureStep.{FigureStep}
 
--- 0, the count and the place after it; or 1, where the sheet ends before
+-- 0, the count and the place after it; or 1, "it ends before a count or figure that is due", and "Beside a refusal each value .. is 0"
 unfoldable pub countFound : List ℕ → ℕ → CountFound
 countFound s at = cond (ltb at (length s)) (record { number = 0; value = countAt s at; at = at + 1 }) (record { number = 1; value = 0; at = at })
 
--- 0, the figure and the place after it; or 1, where the sheet ends before
+-- the same of a figure
 unfoldable pub figureFound : List ℕ → ℕ → FigureFound
 figureFound s at = cond (ltb (length s) (at + 8)) (record { number = 1; value = pos 0; at = at }) (record { number = 0; value = figureAt s at; at = at + 8 })
 
