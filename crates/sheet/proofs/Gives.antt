@@ -48,7 +48,7 @@ module _ {M : Type 1} {𝓤 : URA M} {H : Heap 𝓤} {A : Atoms 𝓤} {K : Type 
       let S = T .signature in let R = typeAt (S .result) (x .0) in let live = raw (alive 𝓤 H A S (x .0) (x .1)) in
       let after = put 𝓤 H A n (‵ (fat fullShare τ b o v)) Γ in
       let said : (r : R .Denot) → ent 𝓤 (ensured 𝓤 H A T c (x .0) (x .3) γ r) (fact 𝓤 (r ≡ y)) =
-            λ r. exE 𝓤 _ (λ ws. via 𝓤 _ (snd∗ 𝓤 (sem 𝓤 H A (lasts T (x .0) (x .3) ws)) (c (x .0) (x .3) .ensures γ r (atExit T (x .0) (x .3) ws))) (says .told r (atExit T (x .0) (x .3) ws))) in
+      λ r. exE 𝓤 _ (λ ws. via 𝓤 _ (snd∗ 𝓤 (sem 𝓤 H A (lasts T (x .0) (x .3) ws)) (c (x .0) (x .3) .ensures γ r (atExit T (x .0) (x .3) ws))) (says .told r (atExit T (x .0) (x .3) ws))) in
       calls-at t fm (triple 𝓤 H A T c) known (x, γ) os (λ u.
       use1 W (later (some (λ (r : R .Denot). (live ⊛ ‵ (R .own r (u ∷ []))) ⊛ raw (ensured 𝓤 H A T c (x .0) (x .3) γ r)))) (id⊢ 𝓤 _) $ await t tt $ pick t (λ r.
       split t $ move t (1 ∷ []) $ use1 W (raw (fact 𝓤 (r ≡ y))) (said r) $ heard t (r ≡ y) (λ e. split t $ move t (1 ∷ []) $

@@ -20,8 +20,8 @@ use Rattle.figures.specs.declared.Linearity.{Linearity}
 use Rattle.figures.specs.declared.System.{System}
 use Rattle.figures.specs.declared.Filter.{Filter}
 use Rattle.figures.specs.declared.Calibration.{Calibration}
-use Rattle.sheet.specs.Judge.{_then_, shortOf, never, wrongCount, beyond, notBelow, tooSteep, trailing, pointsNumber, against,
-  countNumber, rangeNumber, figureNumber, cellNumber, temperaturePointNumber, temperatureNumber, linearityPointNumber, linearityNumber, systemNumber, filterNumber, linearityStart, systemStart, filterStart, sectionsNumber, figuresNumber}
+use Rattle.sheet.specs.Judge.{_then_, shortOf, never, wrongCount, beyond, notBelow, tooSteep, trailing, pointsNumber, against}
+use Rattle.sheet.specs.Judge.{countNumber, rangeNumber, figureNumber, cellNumber, temperaturePointNumber, temperatureNumber, linearityPointNumber, linearityNumber, systemNumber, filterNumber, linearityStart, systemStart, filterStart, sectionsNumber, figuresNumber}
 use Rattle.sheet.specs.Read.{figuresOf, systemPlace, sheetNumber}
 use Rattle.sheet.specs.Bytes.{countAt}
 

@@ -86,20 +86,21 @@ module _ (s : List ℕ) where
         (λ h. ap (λ (f : FigureFound). f .number) (short p (g .short (ltb-true _ _ h))))
         (λ h. ap (λ (f : FigureFound). f .number) (there p (here (ltb-false _ _ h))))
 
+-- the steps of `cell_section`, and what it gives
 module _ (s : RefT (List ℕ)) where
-  abbrev counted : CountStep
+  abbrev pub counted : CountStep
   counted = countStep (started s)
 
-  abbrev cofs : FigureStep
+  abbrev pub cofs : FigureStep
   cofs = figureStep (counted .next)
 
-  abbrev cgai : FigureStep
+  abbrev pub cgai : FigureStep
   cgai = figureStep (cofs .next)
 
-  abbrev cmin : FigureStep
+  abbrev pub cmin : FigureStep
   cmin = figureStep (cgai .next)
 
-  abbrev cmax : FigureStep
+  abbrev pub cmax : FigureStep
   cmax = figureStep (cmin .next)
 
   abbrev pub section : CellSection
@@ -109,5 +110,13 @@ module _ (s : RefT (List ℕ)) where
   unfolding cellSection cellAt
   cell-found =
       let c = now s in let g1 = count-got c in let g9 = figure-got c 1 _ g1 in let g17 = figure-got c 9 _ g9 in let g25 = figure-got c 17 _ g17 in
-      λ i. record { number = figure-number c 25 _ g25 i; count = count-value c i; cell = record {
-        cofs = figure-value c 1 _ g1 i; cgai = figure-value c 9 _ g9 i; cmin = figure-value c 17 _ g17 i; cmax = figure-value c 25 _ g25 i } }
+      λ i. record {
+        number = figure-number c 25 _ g25 i;
+        count = count-value c i;
+        cell = record {
+          cofs = figure-value c 1 _ g1 i;
+          cgai = figure-value c 9 _ g9 i;
+          cmin = figure-value c 17 _ g17 i;
+          cmax = figure-value c 25 _ g25 i;
+        };
+      }

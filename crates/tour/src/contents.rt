@@ -3,8 +3,8 @@ ghost use mathlib.Core.Path.{_≡_};
 ghost use Rattle.sheet.specs.Step.{countFound, figureFound};
 ghost use Rattle.tour.specs.Contents.{cellSection};
 use figures::Cell;
-use sheet::Cursor;
 use sheet::CountFound;
+use sheet::Cursor;
 use sheet::FigureFound;
 
 // The cell section, and 0; or 1, where the sheet ends before, and 0 for what is missing.

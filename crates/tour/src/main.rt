@@ -1,5 +1,6 @@
-// The library by example: a sheet is written, a device is made of it, takes two readings, serves frames and gives reports. Each call
-// prints a line: what was called, its number, and what it gave. The device that a call gives back is handed to the next.
+// The library by example: a sheet is written and read back by its cursor, a device is made of it, takes two readings, serves frames and
+// gives reports. Each call prints a line: what was called, its number, and what it gave. The device that a call gives back is handed to
+// the next.
 ghost use Rattle.figures.specs.Default.{defaultSheet};
 ghost use Rattle.sheet.specs.Write.{sheetBytes};
 ghost use Rattle.converter.specs.Call.{reading, frame};
@@ -39,7 +40,7 @@ fn make_device() -> Outcome
     device_of(&buffer[..length])
 }
 
-// The sheet read by its cursor, and so much as 9 bytes hold of another, a count and a figure; then a device of it.
+// The sheet is read by its cursor, and so are the first 9 bytes of another, a count and a figure; then a device is made of the sheet.
 fn device_of(sheet: &[u8]) -> Outcome
     ensures { λ r. ⌜ Making (now (sheet .entry)) 52 r ⌝ }
 {

@@ -23,7 +23,7 @@ use sound.WpLaws.{FmC, fmOf, WpFn-mono}
 use denote.RattleType.{owns}
 use denote.Laws.{Is}
 use denote.Builtin.{u8, i64}
-use denote.Ref.{RefT, NamedLft, now}
+use denote.Ref.{RefT, NamedLft}
 use denote.Signature.{plain, namedLft}
 use denote.Slice.{ShrSlice, slice-vals, shr-slice-tells, shr-slice-lawful}
 use denote.Steps.{nothing, owned}
@@ -37,8 +37,6 @@ use denote.Triple.Walked.{says, Stays, stay-none-slice, walkOf, goes-none-slice,
 use denote.Exit.{yes}
 use Rattle.figures.proofs.Cell as Y
 use Rattle.figures.proofs.Cell.Laws as Y′
-use Rattle.sheet.specs.Step.{started, countStep, figureStep}
-use Rattle.sheet.specs.declared.CountStep.{CountStep}
 use Rattle.sheet.specs.declared.FigureStep.{FigureStep}
 use Rattle.sheet.proofs.Apart.{token}
 use Rattle.sheet.proofs.CountStep as N
@@ -54,10 +52,8 @@ use Rattle.sheet.proofs.count.Met as count-thm
 use Rattle.sheet.proofs.figure.Symbol as figure-def
 use Rattle.sheet.proofs.figure.Symbol.{name as #sheet·figure}
 use Rattle.sheet.proofs.figure.Met as figure-thm
-use Rattle.tour.specs.Contents.{cellSection}
-use Rattle.tour.specs.declared.contents.CellSection.{CellSection}
 use Rattle.tour.proofs.Lent.{sheetVal, Lent, Start, Count, Figure, starts, counts, figures}
-use Rattle.tour.proofs.Got.{cell-found}
+use Rattle.tour.proofs.Got.{counted, cofs, cgai, cmin, cmax, section, cell-found}
 use Rattle.tour.proofs.contents.CellSection as R
 use Rattle.tour.proofs.contents.CellSection.Laws as R′
 use Rattle.tour.proofs.contents.cell_section.Key.{name as #tour·contents·cell-section}
@@ -73,24 +69,6 @@ module _ {M : Type 1} (𝓤 : URA M) (H : Heap 𝓤) (A : Atoms 𝓤) (mem : Mem
   Known C = Triple 𝓤 (C #sheet·start) (Start 𝓤 H A mem run) × (Triple 𝓤 (C #sheet·count) (Count 𝓤 H A mem run) × Triple 𝓤 (C #sheet·figure) (Figure 𝓤 H A mem run))
 
 module _ {M : Type 1} (𝓤 : URA M) (H : Heap 𝓤) (A : Atoms 𝓤) (W : Given 𝓤 H A) (mem : Memory → SProp 𝓤) (run : Routine → Fun 𝓤) (κ : Lft) (q : Share) (s : RefT (List ℕ)) where
-  abbrev counted : CountStep
-  counted = countStep (started s)
-
-  abbrev cofs : FigureStep
-  cofs = figureStep (counted .next)
-
-  abbrev cgai : FigureStep
-  cgai = figureStep (cofs .next)
-
-  abbrev cmin : FigureStep
-  cmin = figureStep (cgai .next)
-
-  abbrev cmax : FigureStep
-  cmax = figureStep (cmin .next)
-
-  abbrev found : CellSection
-  found = record { number = cmax .number; count = counted .value; cell = record { cofs = cofs .value; cgai = cgai .value; cmin = cmin .value; cmax = cmax .value } }
-
   abbrev at : Bound 𝓤 H A f.signature
   at = ((κ, tt), (q, tt), tt, (s, tt), (sheetVal s ∷ [], tt))
 
@@ -109,15 +87,24 @@ module _ {M : Type 1} (𝓤 : URA M) (H : Heap 𝓤) (A : Atoms 𝓤) (W : Given
   value-is : (r : FigureStep) → FigureIs r → Is i64 (r .value) (vint w64 (ofZ w64 (r .value)) ∷ [])
   value-is r i = LL.owed (F.the-type α) (F′.the-laws α) r _ i .1 .0
 
-  exits : Is (N.the-row α) counted (N′.lowered counted ∷ []) → FigureIs cofs → FigureIs cgai → FigureIs cmin → FigureIs cmax → ent 𝓤 (⋆ 𝓤 H A (token 𝓤 κ q ∷ ‵ (Lent κ s) ∷ [])) (Post (R′.lowered found))
+  exits : Is (N.the-row α) (counted s) (N′.lowered (counted s) ∷ []) → FigureIs (cofs s) → FigureIs (cgai s) → FigureIs (cmin s) → FigureIs (cmax s) → ent 𝓤 (⋆ 𝓤 H A (token 𝓤 κ q ∷ ‵ (Lent κ s) ∷ [])) (Post (R′.lowered (section s)))
   exits i₂ i₃ i₄ i₅ i₆ =
       qed W (token 𝓤 κ q ∷ ‵ (Lent κ s) ∷ []) ∵
-      suffices ! _ (ends-at 𝓤 H A f.ended stayed (f.clauses 𝓤 H A mem run) W (at, tt) (R′.lowered found) found (tt, tt) (tt, tt)) $ says ! (cell-found s) $
-      frame ! $ nothing ! $ move ! (1 ∷ 0 ∷ []) $ fjoin ! $ frame ! $ owned ! R.the-row (Is R.the-row) (LL.makes R.the-type R′.the-plain 𝓤 H A) found _ is $ done !
+      suffices ! _ (ends-at 𝓤 H A f.ended stayed (f.clauses 𝓤 H A mem run) W (at, tt) (R′.lowered (section s)) (section s) (tt, tt) (tt, tt)) $ says ! (cell-found s) $
+      frame ! $ nothing ! $ move ! (1 ∷ 0 ∷ []) $ fjoin ! $ frame ! $ owned ! R.the-row (Is R.the-row) (LL.makes R.the-type R′.the-plain 𝓤 H A) (section s) _ is $ done !
     where
-      is : Is R.the-row found (R′.lowered found ∷ [])
-      is = LL.owes R.the-type R′.the-laws found (number-is cmax i₆, (LL.owed (N.the-type α) (N′.the-laws α) counted _ i₂ .1 .0, (LL.owes Y.the-type Y′.the-laws (found .cell)
-          (value-is cofs i₃, (value-is cgai i₄, (value-is cmin i₅, (value-is cmax i₆, tt)))), tt)))
+      is : Is R.the-row (section s) (R′.lowered (section s) ∷ [])
+      is = LL.owes R.the-type R′.the-laws (section s) (
+        number-is (cmax s) i₆,
+        (
+          LL.owed (N.the-type α) (N′.the-laws α) (counted s) _ i₂ .1 .0,
+          (
+            LL.owes Y.the-type Y′.the-laws (section s .cell)
+                (value-is (cofs s) i₃, (value-is (cgai s) i₄, (value-is (cmin s) i₅, (value-is (cmax s) i₆, tt)))),
+            tt,
+          ),
+        ),
+      )
 
   module _ (C : Calls 𝓤 H) (Λ : Loops 𝓤 H) (fm : FmC 𝓤 H (W .laws) C) (known : Known 𝓤 H A mem run C) where
     walk : Is (ShrSlice (named 0) κ u8) s (sheetVal s ∷ []) → ent 𝓤 (onEntry 𝓤 H A f.signature (κ, tt) (q, tt) (s, tt) (sheetVal s ∷ [], tt)) (WpFn 𝓤 H C Λ code.function (sheetVal s ∷ []) Post)
@@ -131,13 +118,13 @@ module _ {M : Type 1} (𝓤 : URA M) (H : Heap 𝓤) (A : Atoms 𝓤) (W : Given
         starts ! fm mem run κ q s (known .0) (and-then ! (load ! (from ! (stop !)) (look ! 36 refl)) (no-more !)) 22 refl refl (
         counts ! fm mem run κ q s (known .1 .0) 0 (lit< tt) (and-then ! (load ! (from ! (stop !)) (look ! 24 refl)) (no-more !)) 32 refl refl (λ i₂ w₂.
         assigns ! (of-opd ! (load ! (from ! (fld ! refl (stop !))) (look-in ! 34 (sub ! 2 refl (whole !))))) (from ! (stop !)) (init ! 22 refl (tt, w₂ .1 .1 .0)) $
-        figures ! fm mem run κ q s (known .1 .1) (counted .next .at) (w₂ .1 .1 .0 .1 .0 .fits) (and-then ! (load ! (from ! (stop !)) (look ! 22 refl)) (no-more !)) 30 refl refl (λ i₃ w₃.
+        figures ! fm mem run κ q s (known .1 .1) (counted s .next .at) (w₂ .1 .1 .0 .1 .0 .fits) (and-then ! (load ! (from ! (stop !)) (look ! 22 refl)) (no-more !)) 30 refl refl (λ i₃ w₃.
         assigns ! (of-opd ! (load ! (from ! (fld ! refl (stop !))) (look-in ! 32 (sub ! 2 refl (whole !))))) (from ! (stop !)) (init ! 20 refl (tt, w₃ .1 .1 .0)) $
-        figures ! fm mem run κ q s (known .1 .1) (cofs .next .at) (w₃ .1 .1 .0 .1 .0 .fits) (and-then ! (load ! (from ! (stop !)) (look ! 20 refl)) (no-more !)) 28 refl refl (λ i₄ w₄.
+        figures ! fm mem run κ q s (known .1 .1) (cofs s .next .at) (w₃ .1 .1 .0 .1 .0 .fits) (and-then ! (load ! (from ! (stop !)) (look ! 20 refl)) (no-more !)) 28 refl refl (λ i₄ w₄.
         assigns ! (of-opd ! (load ! (from ! (fld ! refl (stop !))) (look-in ! 30 (sub ! 2 refl (whole !))))) (from ! (stop !)) (init ! 18 refl (tt, w₄ .1 .1 .0)) $
-        figures ! fm mem run κ q s (known .1 .1) (cgai .next .at) (w₄ .1 .1 .0 .1 .0 .fits) (and-then ! (load ! (from ! (stop !)) (look ! 18 refl)) (no-more !)) 26 refl refl (λ i₅ w₅.
+        figures ! fm mem run κ q s (known .1 .1) (cgai s .next .at) (w₄ .1 .1 .0 .1 .0 .fits) (and-then ! (load ! (from ! (stop !)) (look ! 18 refl)) (no-more !)) 26 refl refl (λ i₅ w₅.
         assigns ! (of-opd ! (load ! (from ! (fld ! refl (stop !))) (look-in ! 28 (sub ! 2 refl (whole !))))) (from ! (stop !)) (init ! 16 refl (tt, w₅ .1 .1 .0)) $
-        figures ! fm mem run κ q s (known .1 .1) (cmin .next .at) (w₅ .1 .1 .0 .1 .0 .fits) (and-then ! (load ! (from ! (stop !)) (look ! 16 refl)) (no-more !)) 24 refl refl (λ i₆ w₆.
+        figures ! fm mem run κ q s (known .1 .1) (cmin s .next .at) (w₅ .1 .1 .0 .1 .0 .fits) (and-then ! (load ! (from ! (stop !)) (look ! 16 refl)) (no-more !)) 24 refl refl (λ i₆ w₆.
         assigns ! (of-opd ! (load ! (from ! (fld ! refl (stop !))) (look-in ! 26 (sub ! 0 refl (whole !))))) (from ! (stop !)) (init ! 14 refl (tt, w₆ .0)) $
         assigns ! (of-opd ! (load ! (from ! (fld ! refl (stop !))) (look-in ! 34 (sub ! 1 refl (whole !))))) (from ! (stop !)) (init ! 12 refl (tt, w₂ .1 .0)) $
         assigns ! (of-opd ! (load ! (from ! (fld ! refl (stop !))) (look-in ! 32 (sub ! 1 refl (whole !))))) (from ! (stop !)) (init ! 10 refl (tt, w₃ .1 .0)) $
@@ -173,7 +160,10 @@ unfolding code.routine tablesOf
 cell-section-spec 𝓤 H 𝓜 𝓖 𝓡 =
     entered 𝓤 H (tripleOf 𝓤 H (𝓖 .A) f.signature (f.spec 𝓤 H (𝓖 .A) (𝓜 .mem) (𝓡 .run)))
     (tables 𝓤 H 𝓜 𝓡 code.env .C) (tables 𝓤 H 𝓜 𝓡 code.env .Λ) #tour·contents·cell-section code.function (code.unfolded 𝓤 H 𝓜 𝓡)
-    (meets 𝓤 H (𝓖 .A) (givenOf 𝓤 H 𝓜 𝓖) (𝓜 .mem) (𝓡 .run) (tablesOf 𝓤 H 𝓜 (tables 𝓤 H 𝓜 𝓡 code.env))
-    (cited 𝓤 H (Start 𝓤 H (𝓖 .A) (𝓜 .mem) (𝓡 .run)) 𝓜 𝓡 code.env #sheet·start start-def.routine code.calls-sheet·start (start-thm.met 𝓤 H 𝓜 𝓖 𝓡),
-    (cited 𝓤 H (Count 𝓤 H (𝓖 .A) (𝓜 .mem) (𝓡 .run)) 𝓜 𝓡 code.env #sheet·count count-def.routine code.calls-sheet·count (count-thm.met 𝓤 H 𝓜 𝓖 𝓡),
-    cited 𝓤 H (Figure 𝓤 H (𝓖 .A) (𝓜 .mem) (𝓡 .run)) 𝓜 𝓡 code.env #sheet·figure figure-def.routine code.calls-sheet·figure (figure-thm.met 𝓤 H 𝓜 𝓖 𝓡))))
+    (meets 𝓤 H (𝓖 .A) (givenOf 𝓤 H 𝓜 𝓖) (𝓜 .mem) (𝓡 .run) (tablesOf 𝓤 H 𝓜 (tables 𝓤 H 𝓜 𝓡 code.env)) (
+      cited 𝓤 H (Start 𝓤 H (𝓖 .A) (𝓜 .mem) (𝓡 .run)) 𝓜 𝓡 code.env #sheet·start start-def.routine code.calls-sheet·start (start-thm.met 𝓤 H 𝓜 𝓖 𝓡),
+      (
+        cited 𝓤 H (Count 𝓤 H (𝓖 .A) (𝓜 .mem) (𝓡 .run)) 𝓜 𝓡 code.env #sheet·count count-def.routine code.calls-sheet·count (count-thm.met 𝓤 H 𝓜 𝓖 𝓡),
+        cited 𝓤 H (Figure 𝓤 H (𝓖 .A) (𝓜 .mem) (𝓡 .run)) 𝓜 𝓡 code.env #sheet·figure figure-def.routine code.calls-sheet·figure (figure-thm.met 𝓤 H 𝓜 𝓖 𝓡),
+      ),
+    ))
