@@ -17,8 +17,6 @@ pub mod Theorems
 pub mod Range
 pub mod Edges
 mod DefaultBytes
-mod Gives
-mod Apart
 pub mod Steps
 pub mod Gives
 pub mod Apart
