@@ -5,6 +5,5 @@ mod Call
 mod Callees
 mod Branch
 mod Lent
-mod Locals
 mod Entered
 mod Walk

@@ -13,7 +13,7 @@ use base.Fml.{fat, froom}
 use prog.Wp.{Heap, Env, Calls, Loops, Spot, spotOf}
 use ghost.Atoms.{Atoms, sem}
 use sound.WpLaws.{FmC}
-use types.Kit.{Given, Item, mean, nth, put, ‵, raw, some, later, _⊛_, _$_, Post, runs, lands, Seq, move, use1, split, pick, await}
+use types.Kit.{Given, Item, nth, put, ‵, raw, some, later, _⊛_, _$_, Post, runs, lands, Seq, move, use1, split, pick, await}
 use types.Run.{Writes, Opds, land, from, stop, init}
 use contract.Monad.{fact}
 use denote.Laws.{Is, shows}

@@ -18,5 +18,6 @@ pub mod Range
 pub mod Edges
 mod DefaultBytes
 pub mod Steps
+pub mod Locals
 pub mod Gives
 pub mod Apart

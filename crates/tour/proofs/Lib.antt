@@ -1,2 +1,3 @@
+mod Walk
 mod Lent
 mod Got

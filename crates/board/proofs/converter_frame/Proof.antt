@@ -29,7 +29,7 @@ use Rattle.board.proofs.Callees.{is-read, is-obeyed}
 use Rattle.board.proofs.Lent.{slice, bytes, judge, to-judge, judge-asks, answer, to-answer, answer-asks, acknowledge, to-acknowledge, acknowledge-asks, refuse, to-refuse, refuse-asks, obey, to-obey, obey-asks}
 use Rattle.board.proofs.Branch.{branches-on, skips-to}
 use Rattle.board.proofs.Entered.{walk-entered}
-use Rattle.board.proofs.Locals.{frees-all}
+use Rattle.sheet.proofs.Locals.{frees-all}
 use Rattle.board.proofs.Kept.{mach-readings, readings-is, station-fits}
 use Rattle.board.proofs.Record.{opens-record, closes-record, gives-record, station-in, sz-in, state-in, readings-in, copies}
 use Rattle.board.proofs.converter_frame.Key.{name as #board·converter-frame}

@@ -28,7 +28,7 @@ use Rattle.board.proofs.Call.{Callee, AllKnown, calls-plain, local}
 use Rattle.board.proofs.Callees.{bad-reading, held-after, input-at, cell-values, values-from, take}
 use Rattle.board.proofs.Branch.{branches-on, skips-to}
 use Rattle.board.proofs.Entered.{walk-entered}
-use Rattle.board.proofs.Locals.{frees-all}
+use Rattle.sheet.proofs.Locals.{frees-all}
 use Rattle.board.proofs.Kept.{number, mach-state, mach-cell, mach-temperature, mach-linearity, mach-system, mach-filter, mach-readings, restate, restated, five-is, readings-is, state-is}
 use Rattle.board.proofs.Record.{opens-record, closes-record, state-at, filter-in, readings-in, temperature-in, cell-in, linearity-in, system-in, state-in, copies, stores-state}
 use Rattle.board.proofs.converter_reading.Key.{name as #board·converter-reading}

@@ -15,7 +15,7 @@ use Rattle.board.proofs.Walk.{shr-tells, plain, looks, shuts, owned, pe
 use Rattle.board.proofs.Call.{AllKnown, calls-plain, local}
 use Rattle.board.proofs.Callees.{report}
 use Rattle.board.proofs.Entered.{walk-entered}
-use Rattle.board.proofs.Locals.{frees-all}
+use Rattle.sheet.proofs.Locals.{frees-all}
 use Rattle.board.proofs.Kept.{mach, tells, typed}
 use Rattle.board.proofs.converter_report.Key.{name as #board·converter-report}
 use Rattle.board.proofs.converter_report as f

@@ -18,7 +18,7 @@ use Rattle.board.proofs.Call.{Callee, AllKnown, calls-plain, local}
 use Rattle.board.proofs.Callees.{changes-state, state-after, changes-zero, zero-after}
 use Rattle.board.proofs.Branch.{branches-on, skips-to, assigns-to}
 use Rattle.board.proofs.Entered.{walk-entered}
-use Rattle.board.proofs.Locals.{frees-all}
+use Rattle.sheet.proofs.Locals.{frees-all}
 use Rattle.board.proofs.Kept.{mach-state, number, restate, restated, rezero, rezeroed, state-is, sz-is}
 use Rattle.board.proofs.Record.{opens-record, closes-record, setup-at, figures-at, system-at, sz-at, state-at, sz-in, state-in, copies, stores-state, stores-sz}
 use Rattle.board.proofs.obey.Key.{name as #board·obey}

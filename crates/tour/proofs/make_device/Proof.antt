@@ -59,16 +59,6 @@ returns c =
 pub make-device-spec : {M : Type 1} → statement M
 make-device-spec =
     tie.close
-    (tie.spec
-    (λ c κs. search needs)
-    (λ c. search needs)
-    (λ c κs. search needs)
-    (λ c. search needs)
-    (λ c. search needs)
-    (λ c κs. search needs)
-    (λ c κs. search needs)
-    (λ c κs. search needs)
-    array-share-prefix-buffer
-    slice-aggregate-device-of
-    (λ c κs. search needs)
-    returns)
+    (tie.spec (λ c κs. search needs) (λ c. search needs) (λ c κs. search needs) (λ c. search needs) (λ c. search needs)
+    (λ c κs. search needs) (λ c κs. search needs) (λ c κs. search needs) array-share-prefix-buffer slice-aggregate-device-of
+    (λ c κs. search needs) returns)

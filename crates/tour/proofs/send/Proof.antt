@@ -22,13 +22,5 @@ slice-aggregate-print-bytes c = let f = c .before .before .before .before .frame
 pub send-spec : {M : Type 1} → statement M
 send-spec =
     tie.close
-    (tie.spec
-    (λ c. search needs)
-    (λ c κs. search needs)
-    (λ c. search needs)
-    (λ c κs. search needs)
-    array-share-prefix-reply
-    slice-aggregate-print-bytes
-    (λ c κs. search needs)
-    (λ c κs. search needs)
-    (λ c. search needs))
+    (tie.spec (λ c. search needs) (λ c κs. search needs) (λ c. search needs) (λ c κs. search needs) array-share-prefix-reply
+    slice-aggregate-print-bytes (λ c κs. search needs) (λ c κs. search needs) (λ c. search needs))

@@ -5,8 +5,5 @@ use borrow.Author.Needs.{needs}
 use Rattle.sheet.proofs.judgement.first.Statement.{statement}
 use Rattle.sheet.proofs.judgement.first.Tie as tie
 
-returns : tie.Need-returns
-returns c = sym (then-stop _ _ (c .if1 .taken))
-
 pub first-spec : {M : Type 1} → statement M
-first-spec = tie.close (tie.spec returns (λ c. search needs))
+first-spec = tie.close (tie.spec (λ c. sym (then-stop _ _ (c .if1 .taken))) (λ c. search needs))

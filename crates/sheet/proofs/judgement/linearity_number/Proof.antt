@@ -26,10 +26,4 @@ returns-2 c = pass (c .before .before .before .count-number .ensures) (c .before
 pub linearity-number-spec : {M : Type 1} → statement M
 linearity-number-spec =
     tie.close
-    (tie.spec
-    (λ c κs. search needs)
-    returns
-    (λ c. search needs)
-    (λ c. search needs)
-    linearity-points-number-requires
-    returns-2)
+    (tie.spec (λ c κs. search needs) returns (λ c. search needs) (λ c. search needs) linearity-points-number-requires returns-2)

@@ -26,10 +26,5 @@ returns-2 c = pass (c .before .before .before .count-number .ensures) (c .before
 pub temperature-number-spec : {M : Type 1} → statement M
 temperature-number-spec =
     tie.close
-    (tie.spec
-    (λ c κs. search needs)
-    returns
-    (λ c. search needs)
-    (λ c. search needs)
-    temperature-points-number-requires
+    (tie.spec (λ c κs. search needs) returns (λ c. search needs) (λ c. search needs) temperature-points-number-requires
     returns-2)

@@ -13,12 +13,6 @@ Inv-loop room at points n number₀ i₀ number i = (number ≡ pointsNumber (λ
 abbrev μ-loop : tie.MeasureT-loop
 μ-loop room at points n number₀ i₀ number i = n - i
 
-loop-holds : tie.Need-loop-holds Inv-loop μ-loop
-loop-holds c = (refl, omega arith)
-
-temperature-point-number-requires : tie.Need-temperature-point-number-requires Inv-loop μ-loop
-temperature-point-number-requires c κs = (omega arith, omega arith)
-
 loop-again : tie.Need-loop-again Inv-loop μ-loop
 loop-again c =
     let l = c .before .before .before .loop in
@@ -32,15 +26,5 @@ returns c =
 pub temperature-points-number-spec : {M : Type 1} → statement M
 temperature-points-number-spec =
     tie.close
-    (tie.spec
-    Inv-loop
-    μ-loop
-    loop-holds
-    (λ c. omega arith)
-    (λ c. omega arith)
-    temperature-point-number-requires
-    (λ c κs. tt)
-    (λ c. omega arith)
-    (λ c. omega arith)
-    loop-again
-    returns)
+    (tie.spec Inv-loop μ-loop (λ c. (refl, omega arith)) (λ c. omega arith) (λ c. omega arith)
+    (λ c κs. (omega arith, omega arith)) (λ c κs. tt) (λ c. omega arith) (λ c. omega arith) loop-again returns)

@@ -11,9 +11,4 @@ returns c = rw (c .linearity-points-at .ensures, c .before .at-most .ensures, c 
 pub linearity-at-spec : {M : Type 1} → statement M
 linearity-at-spec =
     tie.close
-    (tie.spec
-    (λ c κs. search needs)
-    (λ c. search needs)
-    (λ c κs. search needs)
-    (λ c κs. search needs)
-    returns)
+    (tie.spec (λ c κs. search needs) (λ c. search needs) (λ c κs. search needs) (λ c κs. search needs) returns)

@@ -11,9 +11,4 @@ returns c = rw (c .temperature-points-at .ensures, c .before .at-most .ensures, 
 pub temperature-at-spec : {M : Type 1} → statement M
 temperature-at-spec =
     tie.close
-    (tie.spec
-    (λ c κs. search needs)
-    (λ c. search needs)
-    (λ c κs. search needs)
-    (λ c κs. search needs)
-    returns)
+    (tie.spec (λ c κs. search needs) (λ c. search needs) (λ c κs. search needs) (λ c κs. search needs) returns)

@@ -12,10 +12,5 @@ returns c = rw (held (c .before .before .figure-at .ok) (c .before .before .figu
 pub temperature-point-at-spec : {M : Type 1} → statement M
 temperature-point-at-spec =
     tie.close
-    (tie.spec
-    (λ c κs. search needs)
-    (λ c. search needs)
-    (λ c κs. search needs)
-    (λ c. search needs)
-    (λ c κs. search needs)
+    (tie.spec (λ c κs. search needs) (λ c. search needs) (λ c κs. search needs) (λ c. search needs) (λ c κs. search needs)
     returns)

@@ -29,11 +29,5 @@ cast-print-hex c =
 pub print-float-spec : {M : Type 1} → statement M
 print-float-spec =
     tie.close
-    (tie.spec
-    (λ c. search needs)
-    (λ c. search needs)
-    (λ c κs. search needs)
-    float-to-bits-print-hex
-    cast-print-hex
-    (λ c κs. search needs)
-    (λ c. search needs))
+    (tie.spec (λ c. search needs) (λ c. search needs) (λ c κs. search needs) float-to-bits-print-hex cast-print-hex
+    (λ c κs. search needs) (λ c. search needs))

@@ -16,9 +16,6 @@ Inv-loop sheet at count place₀ i₀ place i = (place ≡ figuresEnd sheet at i
 abbrev μ-loop : tie.MeasureT-loop
 μ-loop sheet at count place₀ i₀ place i = count - i
 
-loop-holds : tie.Need-loop-holds Inv-loop μ-loop
-loop-holds c = (refl, omega arith)
-
 loop-again : tie.Need-loop-again Inv-loop μ-loop
 loop-again c =
     (simp unary-clauses (ap (λ (f : FigureFound). f .at) (c .before .figure-from .ensures ∙ ap (figureFound _) (c .before .before .before .loop .inv .0))), omega arith)
@@ -31,13 +28,5 @@ returns c =
 pub print-figures-spec : {M : Type 1} → statement M
 print-figures-spec =
     tie.close
-    (tie.spec
-    Inv-loop
-    μ-loop
-    loop-holds
-    (λ c κs. search needs)
-    (λ c κs. search needs)
-    (λ c. search needs)
-    (λ c. search needs)
-    loop-again
-    returns)
+    (tie.spec Inv-loop μ-loop (λ c. (refl, omega arith)) (λ c κs. search needs) (λ c κs. search needs) (λ c. search needs)
+    (λ c. search needs) loop-again returns)

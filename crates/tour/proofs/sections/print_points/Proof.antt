@@ -14,9 +14,6 @@ Inv-loop sheet at count each place₀ i₀ place i = (place ≡ pointsEnd sheet 
 abbrev μ-loop : tie.MeasureT-loop
 μ-loop sheet at count each place₀ i₀ place i = count - i
 
-loop-holds : tie.Need-loop-holds Inv-loop μ-loop
-loop-holds c = (refl, omega arith)
-
 loop-again : tie.Need-loop-again Inv-loop μ-loop
 loop-again c =
     let a = c .before .before .before .before .args in
@@ -30,12 +27,5 @@ returns c =
 pub print-points-spec : {M : Type 1} → statement M
 print-points-spec =
     tie.close
-    (tie.spec
-    Inv-loop
-    μ-loop
-    loop-holds
-    (λ c κs. search needs)
-    (λ c. search needs)
-    (λ c. search needs)
-    loop-again
-    returns)
+    (tie.spec Inv-loop μ-loop (λ c. (refl, omega arith)) (λ c κs. search needs) (λ c. search needs) (λ c. search needs)
+    loop-again returns)
