@@ -2,9 +2,8 @@ pub mod Sum
 pub mod Split
 pub mod Pattern
 pub mod Signed
-pub mod Exponent
-pub mod Steps
-pub mod Range
-pub mod Whole
-pub mod Bounded
+pub mod Units
+pub mod Counted
+pub mod Zero
+pub mod Fit
 pub mod Returned

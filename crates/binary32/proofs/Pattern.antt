@@ -1,12 +1,10 @@
--- What a binary32's bit pattern is read as: the sign, the exponent's field e and the digits t give the value, in units of 2 ^ -149.
+-- What a binary32's bit pattern is read as: the sign, the exponent's field e and the digits t give the value, in units of 2 ^ -149; and which patterns are finite.
 -- Assumes nothing.
-use mathlib.Core.Path.{_≡_, refl, sym, _∙_, subst}
+use mathlib.Core.Path.{_≡_, refl, sym, ap, _∙_, subst}
 use mathlib.Core.Bool.{Bool, true, false, not, cond}
-use Prim.Native.Nat.{ℕ, zero, suc, _+_, _*_, _/_, _%_, _^_, _≤_, _<_}
-use native.Mathlib.Nat.{lt-of-lt-of-le, lt-of-not-le, lt-irrefl}
+use Prim.Native.Nat.{ℕ, zero, suc, _+_, _*_, _/_, _%_, _^_}
 use lib.Dec.{T, leb, eqb}
-use lib.Pow.{pow-mono}
-use lib.Ieee.{Float, nan, inf, fin, binary32, odd, fits, isNan, ofFields, ofBits, toBits}
+use lib.Ieee.{Float, nan, inf, binary32, odd, fits, ofFields, ofBits, toBits}
 use lib.Ieee.Bits.{ofBits-toBits}
 use lib.Ieee.Exact.{HasValue, odd-sign}
 use lib.Ieee.Scale.{finite}
@@ -38,12 +36,21 @@ reads x F r =
     let is : x ≡ ofFields binary32 s e t = sym (ofBits-toBits binary32 x F) ∙ ofBits-is b in
     subst (λ (y : Float). HasValue y s (value e t) (2 ^ 149)) (sym is) (read s e t (subst (λ (y : Float). T (finite y)) is r))
 
-pub finite-no-nan : (x : Float) → T (finite x) → T (not (isNan x))
-unfolding isNan
-finite-no-nan nan h = h
-finite-no-nan (inf s) h = tt
-finite-no-nan (fin s m e) h = tt
+-- ---- which patterns are finite: those whose exponent's field is not all ones
+odd-finite : (d : ℕ) (s : Bool) (q k l : ℕ) → finite (odd d s q k l) ≡ true
+unfolding odd
+odd-finite d s zero k l = refl
+odd-finite d s (suc q) k l = refl
 
--- ---- a power of two
-pub pow-lt-back : (i p : ℕ) → 2 ^ i < 2 ^ p → i < p
-pow-lt-back i p h = lt-of-not-le (λ (g : p ≤ i). lt-irrefl (2 ^ i) (lt-of-lt-of-le h (pow-mono g)))
+fields-finite : (s : Bool) (e t : ℕ) → finite (ofFields binary32 s e t) ≡ not (eqb e 255)
+unfolding ofFields
+fields-finite s zero t = odd-finite 24 s t 0 149
+fields-finite s (suc j) t = go (eqb (suc j) 255) (eqb t 0)
+  where
+    go : (a b : Bool) → finite (cond a (cond b (inf s) nan) (odd 24 s (2 ^ 23 + t) j 149)) ≡ not a
+    go true true = refl
+    go true false = refl
+    go false b = odd-finite 24 s (2 ^ 23 + t) j 149
+
+pub finite-is : (n : ℕ) → finite (ofBits binary32 n) ≡ not (eqb (n % 2 ^ 31 / 2 ^ 23) 255)
+finite-is n = ap finite (ofBits-is n) ∙ fields-finite (leb (2 ^ 31) n) (n % 2 ^ 31 / 2 ^ 23) (n % 2 ^ 23)

@@ -1,3 +1,5 @@
 pub mod Sent
 pub mod Received
+pub mod Fit
+pub mod Units
 pub mod Wire

@@ -1,14 +1,16 @@
--- A float as it is received for SZ or FLAG (01, "The bus"): "SZ takes ±32,000, rounded to a step by the rule above; FLAG takes
--- whole 0 to 65,535; NaN and infinities are 16."
-use mathlib.Core.Bool.{Bool, cond, _&&_}
-use Prim.Native.Nat.{ℕ, _*_, _/_, _%_}
-use lib.Dec.{leb, eqb}
+-- A float as a register receives it (01, "The bus"; Change 1): "A value that is not finite, or before rounding beyond its range
+-- .., or a count or FFST that is not whole, is 16."
+use mathlib.Core.Bool.{Bool, cond, _&&_, _||_}
+use Prim.Native.Nat.{ℕ, _*_, _^_, _≤_, _%_}
+use lib.Dec.{ltb, eqb}
 use lib.IntN.{ℤ, pos, negℤ, natAbs, _*ℤ_}
 use lib.Signed.{leZ}
 use lib.Ieee.{Float, nan, inf, fin, up, down}
 use lib.Ieee.Scale.{finite}
+use Rattle.integers.specs.Within.{_within_}
 use Rattle.arithmetic.specs.Round.{roundDiv}
 use Rattle.arithmetic.specs.Fraction.{Fraction, whole, _over_}
+use Rattle.binary32.specs.declared.received.Range.{Range}
 
 abbrev pub signed : Bool → ℕ → ℤ
 signed s n = cond s (negℤ (pos n)) (pos n)
@@ -19,33 +21,28 @@ exact nan = whole (pos 0)
 exact (inf s) = whole (pos 0)
 exact (fin s m e) = signed s (m * up e) over pos (down e)
 
--- ---- SZ
+-- x × 2^shift from `least` to `most`, the ends included; at shift 0 a whole number
+unfoldable pub takes : Range → Float → Bool
+takes r x =
+    finite x
+    && leZ (r .least *ℤ exact x .low) (exact x .top *ℤ pos (2 ^ r .shift))
+    && leZ (exact x .top *ℤ pos (2 ^ r .shift)) (r .most *ℤ exact x .low)
+    && (ltb 0 (r .shift) || eqb (natAbs (exact x .top) % natAbs (exact x .low)) 0)
 
--- finite and within ±32,000, the ends included
-unfoldable pub zeroFits : Float → Bool
-zeroFits x = finite x && leb (natAbs (exact x .top)) (32000 * natAbs (exact x .low))
+-- round(x × 2^shift), by the one rule of rounding
+unfoldable pub nearest : ℕ → Float → ℤ
+nearest shift x = roundDiv (exact x .top *ℤ pos (2 ^ shift)) (exact x .low)
 
--- round(x × 65,536), by the one rule of rounding
-unfoldable pub nearestStep : Float → ℤ
-nearestStep x = roundDiv (exact x .top *ℤ pos 65536) (exact x .low)
+-- what a write of x makes of the register; 0 for an unfit x, which is never written
+unfoldable pub counted : Range → Float → ℤ
+counted r x = cond (takes r x) (nearest (r .shift) x) (pos 0)
 
--- what a write of x makes of SZ; 0 for an unfit x, which is never written
-unfoldable pub zeroSteps : Float → ℤ
-zeroSteps x = cond (zeroFits x) (nearestStep x) (pos 0)
+-- "SZ takes ±32,000", in steps
+abbrev pub zeroRange : Range
+zeroRange = record { shift = 16; least = negℤ (pos 2097152000); most = pos 2097152000 }
 
--- ---- FLAG
-
--- finite and from 0 to 65,535; −0.0 is 0
-unfoldable pub inWord : Float → Bool
-inWord x = finite x && leZ (pos 0) (exact x .top) && leb (natAbs (exact x .top)) (65535 * natAbs (exact x .low))
-
-abbrev pub wholePart : Float → ℕ
-wholePart x = natAbs (exact x .top) / natAbs (exact x .low)
-
--- and a whole number
-unfoldable pub flagFits : Float → Bool
-flagFits x = inWord x && eqb (natAbs (exact x .top) % natAbs (exact x .low)) 0
-
--- the whole number that x is; 0 for an unfit x, which is never written
-unfoldable pub flagWhole : Float → ℕ
-flagWhole x = cond (flagFits x) (wholePart x) 0
+-- what the code asks of a range: no register's is wider
+pub record Computable (r : Range) : Type 0 where
+  pub shift-in : r .shift ≤ 28
+  pub least-in : r .least within (2 ^ 34)
+  pub most-in : r .most within (2 ^ 34)

@@ -1,75 +1,83 @@
-// The floats that SZ and FLAG take (01, "The bus"). Each function takes any float at all: a NaN and
-// the infinities are unfit.
+// The floats that a register takes (01, "The bus"; Change 1). Each function takes any float at all: a NaN and the
+// infinities are unfit.
 ghost use mathlib.Core.Path.{_≡_};
-ghost use lib.Dec.{T};
-ghost use Rattle.binary32.specs.Received.{nearestStep, zeroFits, zeroSteps, inWord, wholePart, flagFits, flagWhole};
+ghost use Prim.Native.Nat.{_^_, _≤_, _<_};
+ghost use Rattle.binary32.specs.Received.{takes as taken, counted, zeroRange, Computable};
+ghost use Rattle.binary32.specs.Units.{units, unitsOf};
 
-// Does SZ take x?
-pub fn zero_fits(x: f32) -> bool
-    ensures { λ r. ⌜ r ≡ zeroFits x ⌝ }
-{
-    if x >= -32000.0 {
-        return x <= 32000.0;
-    }
-    false
+// What a register takes: it counts in 1/2^shift, from least to most; at shift 0 in whole numbers alone.
+#[repr(C)]
+pub struct Range {
+    pub shift: u32,
+    pub least: i64,
+    pub most: i64,
 }
 
-// The steps nearest to x, from its bit pattern: x is digits × 2^(exponent − 150), so units is x in
-// steps, times 2^25; halves upwards that is ⌊(units + 2^24) ÷ 2^25⌋, by a shift. Below an exponent of
-// 109, x is less than a quarter of a step. (Adding 0.5 in f32 would round a second time.)
-fn nearest_step(x: f32) -> i64
-    requires { ⌜ T (zeroFits x) ⌝ }
-    ensures { λ r. ⌜ r ≡ nearestStep x ⌝ }
+// The magnitude of a bit pattern without its sign, in 2^−25 of a count: the pattern is digits × 2^(exponent − 150), so
+// that is digits × 2^(exponent + shift − 125). What is less than a quarter of a count, and not 0, is given as 1, and what
+// is 2^35 counts or more as 2^61: each lies between the same halves.
+fn magnitude(pattern: u64, shift: u64) -> u64
+    requires { ⌜ (pattern < 2 ^ 31) × (shift ≤ 28) ⌝ }
+    ensures { λ r. ⌜ r ≡ units shift pattern ⌝ }
 {
-    let bits = f32::to_bits(x) as u64;
-    let exponent = bits % 0x8000_0000 / 0x80_0000;
-    if exponent < 109 {
+    let place = pattern / 0x80_0000 + shift;
+    if 161 < place {
+        return 0x2000_0000_0000_0000;
+    }
+    if 125 <= place {
+        return (0x80_0000 + pattern % 0x80_0000) << (place - 125);
+    }
+    if pattern == 0 {
         return 0;
     }
-    let digits = 0x80_0000 + bits % 0x80_0000;
-    let units = (digits << (exponent - 109)) as i64;
+    1
+}
+
+fn units_of(x: f32, shift: u32) -> i64
+    requires { ⌜ shift ≤ 28 ⌝ }
+    ensures { λ r. ⌜ r ≡ unitsOf shift x ⌝ }
+{
+    let bits = crate::wire::bits_of_float(x) as u64;
+    let size = magnitude(bits % 0x8000_0000, shift as u64) as i64;
     if bits < 0x8000_0000 {
-        return (units + 0x100_0000) >> 25;
+        return size;
     }
-    (0x100_0000 - units) >> 25
+    -size
 }
 
-// The step count that a write of x gives SZ; 0 where x is unfit.
-pub fn zero_steps(x: f32) -> i64
-    ensures { λ r. ⌜ r ≡ zeroSteps x ⌝ }
+// Does the register take x? (Adding 0.5 or comparing in f32 would round: 26,843,545 ÷ 2^28 is no float.)
+pub fn takes(range: Range, x: f32) -> bool
+    requires { ⌜ Computable range ⌝ }
+    ensures { λ r. ⌜ r ≡ taken range x ⌝ }
 {
-    if zero_fits(x) {
-        return nearest_step(x);
+    let size = units_of(x, range.shift);
+    if size < range.least * 0x200_0000 {
+        return false;
     }
-    0
-}
-
-// The whole part of an x from 0 to 65,535.
-fn whole_part(x: f32) -> u16
-    requires { ⌜ T (inWord x) ⌝ }
-    ensures { λ r. ⌜ r ≡ wholePart x ⌝ }
-{
-    std::num::truncating_f32_to_u64(x) as u16
-}
-
-// Does FLAG take x? −0.0 passes both comparisons, and is 0.
-pub fn flag_fits(x: f32) -> bool
-    ensures { λ r. ⌜ r ≡ flagFits x ⌝ }
-{
-    if x >= 0.0 {
-        if x <= 65535.0 {
-            return (whole_part(x) as f32) == x;
-        }
+    if range.most * 0x200_0000 < size {
+        return false;
     }
-    false
+    if range.shift == 0 {
+        return size & 0x1ff_ffff == 0;
+    }
+    true
 }
 
-// The whole number that x is; 0 where x is unfit.
-pub fn flag_whole(x: f32) -> u16
-    ensures { λ r. ⌜ r ≡ flagWhole x ⌝ }
+// The count nearest to x, halves upwards; 0 where x is unfit.
+pub fn count(range: Range, x: f32) -> i64
+    requires { ⌜ Computable range ⌝ }
+    ensures { λ r. ⌜ r ≡ counted range x ⌝ }
 {
-    if flag_fits(x) {
-        return whole_part(x);
+    if takes(range, x) {
+        return (units_of(x, range.shift) + 0x100_0000) >> 25;
     }
     0
+}
+
+// Does SZ take x? By its pattern: that of 32,000.0 is 46FA0000, and of two positive floats the larger has the larger
+// pattern; a NaN's and the infinities' are above. (SZ is written all day, and this puts no range together.)
+pub fn zero_fits(x: f32) -> bool
+    ensures { λ r. ⌜ r ≡ taken zeroRange x ⌝ }
+{
+    crate::wire::bits_of_float(x) % 0x8000_0000 <= 0x46fa_0000
 }
