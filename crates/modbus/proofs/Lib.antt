@@ -4,7 +4,9 @@ pub mod Linear
 pub mod AtOnce
 pub mod Bytes
 pub mod Words
+pub mod Run
 pub mod Registers
+pub mod Ends
 pub mod Replies
 pub mod Judged
 pub mod Checked

@@ -2,7 +2,11 @@
 ghost use mathlib.Core.Path.{_≡_};
 ghost use Prim.Native.Nat.{_+_, _≤_, _<_};
 ghost use lib.ListN.{length};
+ghost use Rattle.binary32.specs.Received.{Computable};
+ghost use Rattle.modbus.specs.Number.{SZ};
+ghost use Rattle.modbus.specs.Register.{accessOf, rangeIn};
 ghost use Rattle.modbus.specs.Frame.{wordAt, toUs, checked, forUs, accessAsked, readAsked, writeOf, writeAsked, judged};
+use crate::register;
 use crate::register::Access;
 
 // A good frame, or the number that it is turned down with. A write carries the float that it sends,
@@ -72,7 +76,7 @@ fn access_asked(frame: &[u8]) -> Access
 {
     let address = word(frame, 2);
     if address % 2 == 0 {
-        return crate::register::access_to(address / 2);
+        return register::access_to(address / 2);
     }
     Access::Unlisted
 }
@@ -87,35 +91,41 @@ fn read_asked(frame: &[u8]) -> Frame
     if word(frame, 4) != 2 {
         return Frame::Refused(16);
     }
-    let register = word(frame, 2) / 2;
-    let access = access_asked(frame);
-    match access {
-        Access::Unlisted => Frame::Refused(15),
-        _ => Frame::Read(register),
+    let address = word(frame, 2);
+    if address % 2 == 0 {
+        if register::is_listed(address / 2) {
+            return Frame::Read(address / 2);
+        }
     }
+    Frame::Refused(15)
 }
 
 // A write of x to a register.
 fn write_of(access: Access, register: u32, x: f32) -> Frame
+    requires { ⌜ Computable (rangeIn access) ⌝ }
     ensures { λ r. ⌜ r ≡ writeOf access register x ⌝ }
 {
     match access {
         Access::Unlisted => Frame::Refused(15),
         Access::ReadOnly => Frame::Refused(16),
-        Access::Flag => {
-            if binary32::received::flag_fits(x) {
-                return Frame::Write(register, x);
-            }
-            Frame::Refused(16)
-        }
-        Access::Zero => {
-            if binary32::received::zero_fits(x) {
+        Access::Takes(range) => {
+            if binary32::received::takes(range, x) {
                 return Frame::Write(register, x);
             }
             Frame::Refused(16)
         }
         Access::Action => Frame::Act(register),
     }
+}
+
+// A write of x to SZ, the one register that is written all day: by a test of its own.
+fn zero_write(x: f32) -> Frame
+    ensures { λ r. ⌜ r ≡ writeOf (accessOf SZ) SZ x ⌝ }
+{
+    if binary32::received::zero_fits(x) {
+        return Frame::Write(register::SZ, x);
+    }
+    Frame::Refused(16)
 }
 
 // Function 16.
@@ -132,7 +142,11 @@ fn write_asked(frame: &[u8]) -> Frame
         return Frame::Refused(16);
     }
     let x = binary32::wire::float_of_bytes(frame[7], frame[8], frame[9], frame[10]);
-    write_of(access_asked(frame), word(frame, 2) / 2, x)
+    let address = word(frame, 2);
+    if address == 2 * register::SZ {
+        return zero_write(x);
+    }
+    write_of(access_asked(frame), address / 2, x)
 }
 
 // What the frame asks of the device of a station, given the room for a reply: 12, 13, 14, 15 and 16

@@ -10,5 +10,4 @@ returns : tie.Need-returns
 returns c = c .checksum-of-front .ensures ∙ ap checksumOf (take-length _ ∙ sym (take-all _ _ (c .before .if1 .taken)))
 
 pub checksum-spec : {M : Type 1} → statement M
-checksum-spec =
-    tie.close (tie.spec (λ c κs. search needs) returns (λ c κs. search needs) (λ c. search needs))
+checksum-spec = tie.close (tie.spec (λ c κs. search needs) returns (λ c κs. search needs) (λ c. search needs))

@@ -11,5 +11,4 @@ returns c = let a = c .before .args in c .sixty-four-shifts .ensures ∙ checksu
 
 pub checksum-of-word-spec : {M : Type 1} → statement M
 checksum-of-word-spec =
-    tie.close
-    (tie.spec (λ c. search needs) (λ c. search needs) (λ c. search needs) (λ c κs. search needs) returns)
+    tie.close (tie.spec (λ c. search needs) (λ c. search needs) (λ c. search needs) (λ c κs. search needs) returns)

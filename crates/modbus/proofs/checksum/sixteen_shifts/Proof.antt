@@ -14,4 +14,5 @@ unfolding sixteen
 returns c = let x = c .args .x in ap (λ (n : ℕ). bitXor (bitXor (bitXor (x / 4) (x / 4 * 2)) (x % 4 * 0x5000)) (n % 2 * 0xC001)) (ones-within 16 x (omega arith)) ∙ sixteen-is x (omega arith)
 
 pub sixteen-shifts-spec : {M : Type 1} → statement M
-sixteen-shifts-spec = tie.close (tie.spec (λ c. search needs) (λ c. search needs) (λ c. search needs) (λ c. search needs) returns)
+sixteen-shifts-spec =
+    tie.close (tie.spec (λ c. search needs) (λ c. search needs) (λ c. search needs) (λ c. search needs) returns)

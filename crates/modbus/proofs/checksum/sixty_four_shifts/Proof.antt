@@ -29,5 +29,5 @@ returns c =
 pub sixty-four-shifts-spec : {M : Type 1} → statement M
 sixty-four-shifts-spec =
     tie.close
-    (tie.spec (λ c. search needs) mul-multiple (λ c. search needs) (λ c. search needs) (λ c. search needs) (λ c. search needs)
-    mul-result cast-result (λ c. search needs) returns)
+    (tie.spec (λ c. search needs) mul-multiple (λ c. search needs) (λ c. search needs) (λ c. search needs)
+    (λ c. search needs) mul-result cast-result (λ c. search needs) returns)

@@ -29,6 +29,4 @@ returns c =
     ∙ sym (run-at-once s (a .i) (λ j. omega (arith, c .before .shared-slice-known2 .given j)) 1 (omega arith) (a .sum))
 
 pub take-byte-spec : {M : Type 1} → statement M
-take-byte-spec =
-    tie.close
-    (tie.spec (λ c. search needs) cast-low (λ c. search needs) (λ c κs. search needs) returns)
+take-byte-spec = tie.close (tie.spec (λ c. search needs) cast-low (λ c. search needs) (λ c κs. search needs) returns)

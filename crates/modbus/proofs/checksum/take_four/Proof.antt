@@ -23,6 +23,4 @@ returns c =
     ∙ sym (run-at-once (now (a .bytes)) (a .i) (λ j. omega (arith, c .before .before .shared-slice-known .given j)) 4 (omega arith) (a .sum))
 
 pub take-four-spec : {M : Type 1} → statement M
-take-four-spec =
-    tie.close
-    (tie.spec (λ c κs. search needs) (λ c. search needs) (λ c κs. search needs) returns)
+take-four-spec = tie.close (tie.spec (λ c κs. search needs) (λ c. search needs) (λ c κs. search needs) returns)

@@ -76,5 +76,5 @@ returns-5 c =
 pub judge-spec : {M : Type 1} → statement M
 judge-spec =
     tie.close
-    (tie.spec returns (λ c κs. search needs) shared-slice-read-function (λ c κs. search needs) returns-2 (λ c κs. search needs)
-    returns-3 returns-4 returns-5)
+    (tie.spec returns (λ c κs. search needs) shared-slice-read-function (λ c κs. search needs) returns-2
+    (λ c κs. search needs) returns-3 returns-4 returns-5)

@@ -20,5 +20,5 @@ add-result-2 c = omega (arith, c .before .shared-slice-known .given (c .before .
 pub word-spec : {M : Type 1} → statement M
 word-spec =
     tie.close
-    (tie.spec (λ c. search needs) cast-result mul-result (λ c. search needs) (λ c. search needs) cast-result-2 add-result-2
-    (λ c. search needs))
+    (tie.spec (λ c. search needs) cast-result mul-result (λ c. search needs) (λ c. search needs) cast-result-2
+    add-result-2 (λ c. search needs))

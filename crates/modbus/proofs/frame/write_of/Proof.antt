@@ -4,8 +4,10 @@ use mathlib.Core.Bool.{Bool, cond}
 use Prim.Native.Nat.{ℕ}
 use borrow.Author.Needs.{needs}
 use lib.Ieee.{Float}
+use Rattle.binary32.specs.Received.{Computable}
 use Rattle.modbus.specs.declared.register.Access.{Access}
 use Rattle.modbus.specs.declared.frame.Frame.the-variants.{Write, Refused}
+use Rattle.modbus.specs.Register.{rangeIn}
 use Rattle.modbus.specs.Frame.{writeOf}
 use Rattle.modbus.proofs.frame.write_of.Statement.{statement}
 use Rattle.modbus.proofs.frame.write_of.Tie as tie
@@ -16,36 +18,34 @@ by-fit r x e = ap (λ (t : Bool). cond t (Write r x) (Refused 16)) e
 at-access : (r : ℕ) (x : Float) {a b : Access} → a ≡ b → writeOf a r x ≡ writeOf b r x
 at-access r x e = ap (λ (t : Access). writeOf t r x) e
 
+of-access : {a b : Access} → a ≡ b → Computable (rangeIn a) → Computable (rangeIn b)
+of-access e h = rw (sym e) h
+
+takes-requires : tie.Need-takes-requires
+takes-requires c κs = of-access (c .before .access .given .1) (c .before .before .before .pre)
+
 returns : tie.Need-returns
 unfolding writeOf
-returns c = let a = c .before .before .before .before .args in by-fit (a .register) (a .x) (sym (c .if1 .taken) ∙ c .before .flag-fits .ensures) ∙ at-access (a .register) (a .x) (sym (c .before .before .enum-told3 .given .1))
+returns c = let a = c .before .before .before .before .before .args in by-fit (a .register) (a .x) (sym (c .if1 .taken) ∙ c .before .takes .ensures) ∙ at-access (a .register) (a .x) (sym (c .before .before .before .access .given .1))
 
 returns-2 : tie.Need-returns-2
 unfolding writeOf
-returns-2 c = let a = c .before .before .before .before .args in by-fit (a .register) (a .x) (sym (c .if2 .taken) ∙ c .before .zero-fits .ensures) ∙ at-access (a .register) (a .x) (sym (c .before .before .enum-told4 .given .1))
+returns-2 c = let a = c .before .before .args in at-access (a .register) (a .x) (sym (c .enum-told .given .1))
 
 returns-3 : tie.Need-returns-3
 unfolding writeOf
-returns-3 c = let a = c .before .before .args in at-access (a .register) (a .x) (sym (c .enum-told .given .1))
+returns-3 c = let a = c .before .before .args in at-access (a .register) (a .x) (sym (c .enum-told2 .given .1))
 
 returns-4 : tie.Need-returns-4
 unfolding writeOf
-returns-4 c = let a = c .before .before .args in at-access (a .register) (a .x) (sym (c .enum-told2 .given .1))
+returns-4 c = let a = c .before .before .before .before .before .args in by-fit (a .register) (a .x) (sym (c .if1 .left) ∙ c .before .takes .ensures) ∙ at-access (a .register) (a .x) (sym (c .before .before .before .access .given .1))
 
 returns-5 : tie.Need-returns-5
 unfolding writeOf
-returns-5 c = let a = c .before .before .before .before .args in by-fit (a .register) (a .x) (sym (c .if1 .left) ∙ c .before .flag-fits .ensures) ∙ at-access (a .register) (a .x) (sym (c .before .before .enum-told3 .given .1))
-
-returns-6 : tie.Need-returns-6
-unfolding writeOf
-returns-6 c = let a = c .before .before .before .before .args in by-fit (a .register) (a .x) (sym (c .if2 .left) ∙ c .before .zero-fits .ensures) ∙ at-access (a .register) (a .x) (sym (c .before .before .enum-told4 .given .1))
-
-returns-7 : tie.Need-returns-7
-unfolding writeOf
-returns-7 c = let a = c .before .before .args in at-access (a .register) (a .x) (sym (c .enum-told5 .given .1))
+returns-5 c = let a = c .before .before .args in at-access (a .register) (a .x) (sym (c .enum-told3 .given .1))
 
 pub write-of-spec : {M : Type 1} → statement M
 write-of-spec =
     tie.close
-    (tie.spec (λ c. search needs) (λ c. search needs) (λ c. search needs) (λ c κs. search needs) returns (λ c. search needs)
-    (λ c κs. search needs) returns-2 (λ c. search needs) returns-3 returns-4 returns-5 returns-6 returns-7)
+    (tie.spec (λ c. search needs) (λ c. search needs) (λ c. search needs) takes-requires returns (λ c. search needs)
+    returns-2 returns-3 returns-4 returns-5)

@@ -71,5 +71,6 @@ returns-3 c =
 pub acknowledgement-spec : {M : Type 1} → statement M
 acknowledgement-spec =
     tie.close
-    (tie.spec returns (λ c κs. search needs) returns-2 (λ c κs. search needs) (λ c. search needs) (λ c. search needs) cast-high
-    (λ c. search needs) cast-high-2 mul-high add-high mul-put add-put put-requires (λ c. search needs) returns-3)
+    (tie.spec returns (λ c κs. search needs) returns-2 (λ c κs. search needs) (λ c. search needs) (λ c. search needs)
+    cast-high (λ c. search needs) cast-high-2 mul-high add-high mul-put add-put put-requires (λ c. search needs)
+    returns-3)

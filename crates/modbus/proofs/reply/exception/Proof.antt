@@ -87,6 +87,6 @@ returns-3 c =
 pub exception-spec : {M : Type 1} → statement M
 exception-spec =
     tie.close
-    (tie.spec (λ c κs. search needs) returns shared-slice-read-function (λ c κs. search needs) returns-2 shared-slice-read-start
-    cast-start (λ c κs. search needs) (λ c. search needs) (λ c. search needs) add-start (λ c. search needs) (λ c. search needs)
-    add-put put-requires (λ c. search needs) returns-3)
+    (tie.spec (λ c κs. search needs) returns shared-slice-read-function (λ c κs. search needs) returns-2
+    shared-slice-read-start cast-start (λ c κs. search needs) (λ c. search needs) (λ c. search needs) add-start
+    (λ c. search needs) (λ c. search needs) add-put put-requires (λ c. search needs) returns-3)

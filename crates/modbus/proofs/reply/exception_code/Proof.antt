@@ -10,7 +10,7 @@ use Rattle.modbus.proofs.reply.exception_code.Tie as tie
 
 returns : tie.Need-returns
 unfolding exceptionCode
-returns c = ap₂ exceptionCode (sym (c .before .match .keys4)) (sym (c .if1 .taken))
+returns c = ap₂ exceptionCode (sym (c .before .match .keys5)) (sym (c .if1 .taken))
 
 returns-2 : tie.Need-returns-2
 unfolding exceptionCode
@@ -26,14 +26,17 @@ returns-4 c = ap (λ (n : ℕ). exceptionCode n (c .before .args .function)) (sy
 
 returns-5 : tie.Need-returns-5
 unfolding exceptionCode
-returns-5 c = let f = c .before .before .args .function in sym (ap (λ (t : Bool). cond t 2 3) (ne-eqb f 3 (c .if1 .left))) ∙ ap (λ (n : ℕ). exceptionCode n f) (sym (c .before .match .keys4))
+returns-5 c = ap (λ (n : ℕ). exceptionCode n (c .before .args .function)) (sym (c .match .keys4))
 
 returns-6 : tie.Need-returns-6
 unfolding exceptionCode
-returns-6 c =
+returns-6 c = let f = c .before .before .args .function in sym (ap (λ (t : Bool). cond t 2 3) (ne-eqb f 3 (c .if1 .left))) ∙ ap (λ (n : ℕ). exceptionCode n f) (sym (c .before .match .keys5))
+
+returns-7 : tie.Need-returns-7
+unfolding exceptionCode
+returns-7 c =
     let r = c .match .rest in
-    simp (ne-eqb _ _ (r .0 .0 .0 .1), ne-eqb _ _ (λ e. r .0 .0 .1 (inr e)), ne-eqb _ _ (λ e. r .0 .0 .1 (inl e)), ne-eqb _ _ (r .0 .1), ne-eqb _ _ (r .1))
+    simp (ne-eqb _ _ (r .0 .0 .0 .0 .1), ne-eqb _ _ (λ e. r .0 .0 .0 .1 (inr e)), ne-eqb _ _ (λ e. r .0 .0 .0 .1 (inl e)), ne-eqb _ _ (r .0 .0 .1), ne-eqb _ _ (r .0 .1), ne-eqb _ _ (r .1))
 
 pub exception-code-spec : {M : Type 1} → statement M
-exception-code-spec =
-    tie.close (tie.spec returns returns-2 returns-3 returns-4 returns-5 returns-6)
+exception-code-spec = tie.close (tie.spec returns returns-2 returns-3 returns-4 returns-5 returns-6 returns-7)

@@ -59,5 +59,5 @@ returns-2 c =
 pub value-spec : {M : Type 1} → statement M
 value-spec =
     tie.close
-    (tie.spec (λ c κs. search needs) returns (λ c κs. search needs) (λ c. search needs) shared-slice-read-put cast-put add-put
-    (λ c. search needs) add-put-2 put-requires (λ c. search needs) returns-2)
+    (tie.spec (λ c κs. search needs) returns (λ c κs. search needs) (λ c. search needs) shared-slice-read-put cast-put
+    add-put (λ c. search needs) add-put-2 put-requires (λ c. search needs) returns-2)
