@@ -1,0 +1,56 @@
+-- `panel::linearity_at` meets its contract, arm by arm. Assumes nothing.
+use mathlib.Core.Path.{_≡_, sym, ap, _∙_}
+use Prim.Native.Nat.{ℕ, _+_, _-_, _≤_, _<_}
+use native.Mathlib.Omega.{arith}
+use lib.IntN.{pos}
+use mir.Facts.{toZ-ofZ}
+use mir.Syntax.{w64}
+use mir.ValLaws.{toZ-pos}
+use borrow.Author.Needs.{sfits-of}
+use borrow.Author.Tests.{ne-eqb}
+use Rattle.figures.specs.declared.Linearity.{Linearity}
+use Rattle.modbus.specs.Number.{CLN, CLX, CLK}
+use Rattle.panel.specs.Figure.{linearityAt}
+use Rattle.panel.proofs.Among.{below, above}
+use Rattle.panel.proofs.Columns.{clx-at, clk-at}
+use borrow.Author.Needs.{needs}
+use Rattle.panel.proofs.linearity_at.Statement.{statement}
+use Rattle.panel.proofs.linearity_at.Tie as tie
+
+none-1 : (l : Linearity) (n : ℕ) → (n ≡ CLN → ⊥) → n < CLX → pos 0 ≡ linearityAt l n
+unfolding linearityAt
+none-1 l n e h = simp (ne-eqb n CLN e, below CLX (CLX + 6) n (omega arith), below CLK (CLK + 6) n (omega arith))
+
+none-2 : (l : Linearity) (n : ℕ) → (n ≡ CLN → ⊥) → CLX + 7 ≤ n → n < CLK → pos 0 ≡ linearityAt l n
+unfolding linearityAt
+none-2 l n e h k = simp (ne-eqb n CLN e, above CLX (CLX + 6) n (omega arith), below CLK (CLK + 6) n (omega arith))
+
+none-3 : (l : Linearity) (n : ℕ) → (n ≡ CLN → ⊥) → CLK + 7 ≤ n → pos 0 ≡ linearityAt l n
+unfolding linearityAt
+none-3 l n e h = simp (ne-eqb n CLN e, above CLX (CLX + 6) n (omega arith), above CLK (CLK + 6) n (omega arith))
+
+returns : tie.Need-returns
+unfolding linearityAt
+returns c = let s = c .before .before .before in toZ-pos w64 _ (omega arith) ∙ ap (linearityAt (s .args .l)) (sym (c .before .match .keys1))
+
+returns-2 : tie.Need-returns-2
+returns-2 c = let s = c .before .before .before .before .before .before in search (toZ-ofZ, sfits-of) ∙ clx-at (s .args .l) (s .args .register) (omega arith) (omega arith)
+
+returns-3 : tie.Need-returns-3
+returns-3 c = let s = c .before .before .before .before .before .before .before .before in search (toZ-ofZ, sfits-of) ∙ clk-at (s .args .l) (s .args .register) (omega arith) (omega arith)
+
+returns-4 : tie.Need-returns-4
+returns-4 c = let s = c .before .before .before in none-1 (s .args .l) (s .args .register) (c .before .match .rest .1) (omega arith)
+
+returns-5 : tie.Need-returns-5
+returns-5 c = let s = c .before .before .before .before .before in none-2 (s .args .l) (s .args .register) (c .before .before .before .match .rest .1) (omega arith) (omega arith)
+
+returns-6 : tie.Need-returns-6
+returns-6 c = let s = c .before .before .before .before .before .before in none-3 (s .args .l) (s .args .register) (c .before .before .before .before .match .rest .1) (omega arith)
+
+pub linearity-at-spec : {M : Type 1} → statement M
+linearity-at-spec =
+    tie.close
+    (tie.spec (λ c. search needs) (λ c. search needs) (λ c. search needs) (λ c. search needs) (λ c. search needs)
+    (λ c. search needs) (λ c. search needs) (λ c. search needs) returns returns-2 returns-3 returns-4 returns-5
+    returns-6)

@@ -1,0 +1,52 @@
+-- `panel::temperature_at` meets its contract, arm by arm. Assumes nothing.
+use mathlib.Core.Path.{_≡_, sym, ap, _∙_}
+use Prim.Native.Nat.{ℕ, _+_, _-_, _≤_, _<_}
+use native.Mathlib.Omega.{arith}
+use lib.IntN.{pos}
+use mir.Facts.{toZ-ofZ}
+use mir.Syntax.{w64}
+use mir.ValLaws.{toZ-pos}
+use borrow.Author.Needs.{sfits-of}
+use borrow.Author.Tests.{ne-eqb}
+use Rattle.figures.specs.declared.Temperature.{Temperature}
+use Rattle.modbus.specs.Number.{CTN, CT, CTG, CTO}
+use Rattle.panel.specs.Figure.{temperatureAt}
+use Rattle.panel.proofs.Among.{below, above}
+use Rattle.panel.proofs.Columns.{ct-at, ctg-at, cto-at}
+use borrow.Author.Needs.{needs}
+use Rattle.panel.proofs.temperature_at.Statement.{statement}
+use Rattle.panel.proofs.temperature_at.Tie as tie
+
+none-1 : (l : Temperature) (n : ℕ) → (n ≡ CTN → ⊥) → n < CT → pos 0 ≡ temperatureAt l n
+unfolding temperatureAt
+none-1 l n e h = simp (ne-eqb n CTN e, below CT (CT + 4) n (omega arith), below CTG (CTG + 4) n (omega arith), below CTO (CTO + 4) n (omega arith))
+
+none-2 : (l : Temperature) (n : ℕ) → (n ≡ CTN → ⊥) → CTO + 5 ≤ n → pos 0 ≡ temperatureAt l n
+unfolding temperatureAt
+none-2 l n e h = simp (ne-eqb n CTN e, above CT (CT + 4) n (omega arith), above CTG (CTG + 4) n (omega arith), above CTO (CTO + 4) n (omega arith))
+
+returns : tie.Need-returns
+unfolding temperatureAt
+returns c = let s = c .before .before .before in toZ-pos w64 _ (omega arith) ∙ ap (temperatureAt (s .args .t)) (sym (c .before .match .keys1))
+
+returns-2 : tie.Need-returns-2
+returns-2 c = let s = c .before .before .before .before .before .before in search (toZ-ofZ, sfits-of) ∙ ct-at (s .args .t) (s .args .register) (omega arith) (omega arith)
+
+returns-3 : tie.Need-returns-3
+returns-3 c = let s = c .before .before .before .before .before .before .before in search (toZ-ofZ, sfits-of) ∙ ctg-at (s .args .t) (s .args .register) (omega arith) (omega arith)
+
+returns-4 : tie.Need-returns-4
+returns-4 c = let s = c .before .before .before .before .before .before .before .before in search (toZ-ofZ, sfits-of) ∙ cto-at (s .args .t) (s .args .register) (omega arith) (omega arith)
+
+returns-5 : tie.Need-returns-5
+returns-5 c = let s = c .before .before .before in none-1 (s .args .t) (s .args .register) (c .before .match .rest .1) (omega arith)
+
+returns-6 : tie.Need-returns-6
+returns-6 c = let s = c .before .before .before .before .before .before in none-2 (s .args .t) (s .args .register) (c .before .before .before .before .match .rest .1) (omega arith)
+
+pub temperature-at-spec : {M : Type 1} → statement M
+temperature-at-spec =
+    tie.close
+    (tie.spec (λ c. search needs) (λ c. search needs) (λ c. search needs) (λ c. search needs) (λ c. search needs)
+    (λ c. search needs) (λ c. search needs) (λ c. search needs) (λ c. search needs) (λ c. search needs)
+    (λ c. search needs) returns returns-2 returns-3 returns-4 returns-5 returns-6)

@@ -1,0 +1,143 @@
+-- Which figure a register is (Change 1): "CGAI 40, COFS 41, CMIN 44, CMAX 45, CLN 50, CLX 51 to 57, CLK 61 to 67, SGAI 70, SOFS 71,
+-- SMIN 74, SMAX 75, FFLV 92, FFST 93, CTN 110, CT 111 to 115, CTG 116 to 120, CTO 121 to 125". Scale and range of each stand in
+-- `modbus/specs/Register.antt`.
+use mathlib.Core.Path.{_≡_}
+use mathlib.Core.Bool.{Bool, false, cond, _&&_, _||_}
+use mathlib.Core.List.{List, [], _∷_}
+use Prim.Native.Nat.{ℕ, suc, _+_, _-_, _≤_}
+use lib.Dec.{eqb, leb, ltb}
+use lib.IntN.{ℤ, pos, natAbs}
+use lib.Ieee.{Float}
+use lib.ListN.{getD}
+use lib.Signed.{_≤ℤ_}
+use Rattle.integers.specs.Within.{_within_}
+use Rattle.figures.specs.Default.{noTemperature, noLinearity}
+use Rattle.figures.specs.Unused.{used}
+use Rattle.figures.specs.declared.Cell.{Cell}
+use Rattle.figures.specs.declared.TemperaturePoint.{TemperaturePoint}
+use Rattle.figures.specs.declared.Temperature.{Temperature}
+use Rattle.figures.specs.declared.LinearityPoint.{LinearityPoint}
+use Rattle.figures.specs.declared.Linearity.{Linearity}
+use Rattle.figures.specs.declared.System.{System}
+use Rattle.figures.specs.declared.Filter.{Filter}
+use Rattle.figures.specs.declared.Calibration.{Calibration}
+use Rattle.binary32.specs.Sent.{countFloat}
+use Rattle.binary32.specs.Received.{counted}
+use Rattle.modbus.specs.Number.{CGAI, COFS, CMIN, CMAX, CLN, CLX, CLK, SGAI, SOFS, SMIN, SMAX, FFLV, FFST, CTN, CT, CTG, CTO}
+use Rattle.modbus.specs.Register.{rangeOf}
+
+-- ---- the figure at a register; 0 at any other
+
+abbrev pub among : ℕ → ℕ → ℕ → Bool
+among first last n = leb first n && leb n last
+
+unfoldable pub cellAt : Cell → ℕ → ℤ
+cellAt c n = cond (eqb n CGAI) (c .cgai) (cond (eqb n COFS) (c .cofs) (cond (eqb n CMIN) (c .cmin) (cond (eqb n CMAX) (c .cmax) (pos 0))))
+
+unfoldable pub linearityAt : Linearity → ℕ → ℤ
+linearityAt l n =
+    cond (eqb n CLN) (pos (l .cln))
+    (cond (among CLX (CLX + 6) n) (getD (l .points) (n - CLX) noLinearity .clx)
+    (cond (among CLK (CLK + 6) n) (getD (l .points) (n - CLK) noLinearity .clk)
+    (pos 0)))
+
+unfoldable pub systemAt : System → ℕ → ℤ
+systemAt s n = cond (eqb n SGAI) (s .sgai) (cond (eqb n SOFS) (s .sofs) (cond (eqb n SMIN) (s .smin) (cond (eqb n SMAX) (s .smax) (pos 0))))
+
+unfoldable pub filterAt : Filter → ℕ → ℤ
+filterAt f n = cond (eqb n FFLV) (f .fflv) (cond (eqb n FFST) (f .ffst) (pos 0))
+
+unfoldable pub temperatureAt : Temperature → ℕ → ℤ
+temperatureAt t n =
+    cond (eqb n CTN) (pos (t .ctn))
+    (cond (among CT (CT + 4) n) (getD (t .points) (n - CT) noTemperature .ct)
+    (cond (among CTG (CTG + 4) n) (getD (t .points) (n - CTG) noTemperature .ctg)
+    (cond (among CTO (CTO + 4) n) (getD (t .points) (n - CTO) noTemperature .cto)
+    (pos 0))))
+
+unfoldable pub figureAt : Calibration → ℕ → ℤ
+figureAt c n =
+    cond (ltb n CLN) (cellAt (c .cell) n)
+    (cond (ltb n SGAI) (linearityAt (c .linearity) n)
+    (cond (ltb n FFLV) (systemAt (c .system) n)
+    (cond (ltb n CTN) (filterAt (c .filter) n)
+    (temperatureAt (c .temperature) n))))
+
+-- is a register that of a figure?
+unfoldable pub isFigure : ℕ → Bool
+isFigure n =
+    cond (ltb n CLN) (eqb n CGAI || (eqb n COFS || (eqb n CMIN || (eqb n CMAX || false))))
+    (cond (ltb n SGAI) (eqb n CLN || (among CLX (CLX + 6) n || (among CLK (CLK + 6) n || false)))
+    (cond (ltb n FFLV) (eqb n SGAI || (eqb n SOFS || (eqb n SMIN || (eqb n SMAX || false))))
+    (cond (ltb n CTN) (eqb n FFLV || (eqb n FFST || false))
+    (eqb n CTN || (among CT (CT + 4) n || (among CTG (CTG + 4) n || (among CTO (CTO + 4) n || false)))))))
+
+-- "each figure ÷ its own scale with one rounding, counts and FFST whole"
+unfoldable pub figureFloat : Calibration → ℕ → Float
+figureFloat c n = countFloat (rangeOf n .shift) (figureAt c n)
+
+-- ---- all figures, that of register n being z: each field with its register's number
+
+abbrev pub put : ℕ → ℤ → ℕ → ℤ → ℤ
+put n z m v = cond (eqb m n) z v
+
+-- each point, with its index
+abbrev pub numbered : {A : Type 0} → (ℕ → A → A) → ℕ → List A → List A
+numbered f i [] = []
+numbered f i (p ∷ ps) = f i p ∷ numbered f (suc i) ps
+
+module _ (n : ℕ) (z : ℤ) where
+  unfoldable pub cellWith : Cell → Cell
+  cellWith c = record { cofs = put n z COFS (c .cofs); cgai = put n z CGAI (c .cgai); cmin = put n z CMIN (c .cmin); cmax = put n z CMAX (c .cmax) }
+
+  unfoldable pub temperaturePointWith : ℕ → TemperaturePoint → TemperaturePoint
+  temperaturePointWith i p = record { ct = put n z (CT + i) (p .ct); cto = put n z (CTO + i) (p .cto); ctg = put n z (CTG + i) (p .ctg) }
+
+  unfoldable pub temperatureWith : Temperature → Temperature
+  temperatureWith t = record { ctn = natAbs (put n z CTN (pos (t .ctn))); points = numbered temperaturePointWith 0 (t .points) }
+
+  unfoldable pub linearityPointWith : ℕ → LinearityPoint → LinearityPoint
+  linearityPointWith i p = record { clx = put n z (CLX + i) (p .clx); clk = put n z (CLK + i) (p .clk) }
+
+  unfoldable pub linearityWith : Linearity → Linearity
+  linearityWith l = record { cln = natAbs (put n z CLN (pos (l .cln))); points = numbered linearityPointWith 0 (l .points) }
+
+  -- SZ has no register in the copy
+  unfoldable pub systemWith : System → System
+  systemWith s = record { sofs = put n z SOFS (s .sofs); sgai = put n z SGAI (s .sgai); smin = put n z SMIN (s .smin); smax = put n z SMAX (s .smax); sz = s .sz }
+
+  unfoldable pub filterWith : Filter → Filter
+  filterWith f = record { fflv = put n z FFLV (f .fflv); ffst = put n z FFST (f .ffst) }
+
+  unfoldable pub withFigure : Calibration → Calibration
+  withFigure c = record {
+    cell = cellWith (c .cell);
+    temperature = temperatureWith (c .temperature);
+    linearity = linearityWith (c .linearity);
+    system = systemWith (c .system);
+    filter = filterWith (c .filter);
+  }
+
+-- what is written as a count fits its byte
+pub record Counts (n : ℕ) (z : ℤ) : Type 0 where
+  pub clx-count : n ≡ CLN → (pos 0 ≤ℤ z) × (z ≤ℤ pos 255)
+  pub ct-count : n ≡ CTN → (pos 0 ≤ℤ z) × (z ≤ℤ pos 255)
+
+-- "Values are rounded as SZ is, gains and gain adjustments to 1/2^28."
+unfoldable pub written : Calibration → ℕ → Float → Calibration
+written c n x = withFigure n (counted (rangeOf n) x) c
+
+-- ---- what a float of a figure may be asked for: every figure within its register's range
+abbrev pub InRange : Calibration → Type 0
+InRange c = (n : ℕ) → (figureAt c n) within (natAbs (rangeOf n .most))
+
+-- a point by its index: `used` of `figures/specs/Unused.antt`, point by point
+abbrev pub usedAt : {A : Type 0} → A → ℕ → ℕ → A → A
+usedAt none count i p = cond (ltb i count) p none
+
+-- and table by table
+abbrev pub temperatureUsed : Temperature → Temperature
+temperatureUsed t = record { ctn = t .ctn; points = used noTemperature (t .ctn) (t .points) }
+
+abbrev pub linearityUsed : Linearity → Linearity
+linearityUsed l = record { cln = l .cln; points = used noLinearity (l .cln) (l .points) }
