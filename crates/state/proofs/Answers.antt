@@ -1,30 +1,39 @@
--- What a frame is answered with, by the tests `isRead` and `isObeyed`: one that is obeyed is done, and one that is neither is refused
+-- What a frame is answered with, by the tests `isRead` and `obeys`: one that is obeyed is done, and one that is neither is refused
 -- with `refusalOf`. Assumes nothing.
-use mathlib.Core.Path.{_≡_, refl}
+use mathlib.Core.Path.{_≡_, refl, _∙_, ap}
 use mathlib.Core.Bool.{Bool, true, false, cond, _||_, true≢false, false≢true}
-use lib.IntN.{ℤ}
+use native.Mathlib.Omega.{arith}
+use borrow.Author.Tests.{eqb-true, ne-eqb}
+use lib.Dec.{eqb}
+use Rattle.modbus.specs.Number.{APPLY, RST}
 use Rattle.modbus.specs.declared.frame.Frame.{Frame}
 use Rattle.modbus.specs.declared.frame.Frame.the-variants as frame
 use Rattle.modbus.specs.declared.frame.Frame.the-variants.{Read, Write, Act}
+use Rattle.state.specs.declared.Setup.{Setup}
 use Rattle.state.specs.declared.State.{State}
 use Rattle.state.specs.declared.registers.Answer.the-variants.{Done, Refused}
-use Rattle.state.specs.Register.{onReading, answered, isRead, isObeyed, refusalOf}
+use Rattle.state.specs.InForce.{copyFits}
+use Rattle.state.specs.Register.{onReading, onCopy, answered}
+use Rattle.state.specs.Parts.{isRead, applies, isObeyed, obeys, refusalOf}
 
--- the answer to an action, by its two tests
-by-tests : (a b : Bool) → cond a Done (cond b Done (Refused 10)) ≡ cond (a || b) Done (Refused 10)
-by-tests true b = refl
-by-tests false b = refl
+-- the answer to an action, by its tests: RST is not 99
+by-tests : (rst apply fits any : Bool) → (apply ≡ true → rst ≡ false)
+    → cond rst Done (cond apply (cond fits Done (Refused 17)) (cond any Done (Refused 10))) ≡ cond (cond apply fits (rst || any)) Done (Refused (cond apply 17 10))
+by-tests true true fits any n = absurd (true≢false (n refl))
+by-tests true false fits any n = refl
+by-tests false true fits any n = refl
+by-tests false false fits any n = refl
 
-pub answer-obeyed : (s : State) (sz : ℤ) (f : Frame) → isObeyed (s .readings) f ≡ true → answered s sz f ≡ Done
-unfolding onReading answered isObeyed
-answer-obeyed s sz (frame.Refused n) e = absurd (false≢true e)
-answer-obeyed s sz (Read r) e = absurd (false≢true e)
-answer-obeyed s sz (Write r x) e = refl
-answer-obeyed s sz (Act r) e = rw (by-tests, e)
+pub answer-obeyed : (s : State) (setup : Setup) (f : Frame) → obeys s setup f ≡ true → answered s setup f ≡ Done
+unfolding onReading onCopy answered applies isObeyed
+answer-obeyed s setup (frame.Refused n) e = absurd (false≢true e)
+answer-obeyed s setup (Read r) e = absurd (false≢true e)
+answer-obeyed s setup (Write r x) e = refl
+answer-obeyed s setup (Act r) e = by-tests (eqb r RST) (eqb r APPLY) (copyFits setup) (s .readings .any) (λ g. ne-eqb r RST (λ k. omega (arith, k, eqb-true r APPLY g))) ∙ rw e
 
-pub answer-refused : (s : State) (sz : ℤ) (f : Frame) → isRead f ≡ false → isObeyed (s .readings) f ≡ false → answered s sz f ≡ Refused (refusalOf f)
-unfolding onReading answered isRead isObeyed refusalOf
-answer-refused s sz (frame.Refused n) e h = refl
-answer-refused s sz (Read r) e h = absurd (true≢false e)
-answer-refused s sz (Write r x) e h = absurd (true≢false h)
-answer-refused s sz (Act r) e h = rw (by-tests, h)
+pub answer-refused : (s : State) (setup : Setup) (f : Frame) → isRead f ≡ false → obeys s setup f ≡ false → answered s setup f ≡ Refused (refusalOf f)
+unfolding onReading onCopy answered isRead applies isObeyed refusalOf
+answer-refused s setup (frame.Refused n) e h = refl
+answer-refused s setup (Read r) e h = absurd (true≢false e)
+answer-refused s setup (Write r x) e h = absurd (true≢false h)
+answer-refused s setup (Act r) e h = by-tests (eqb r RST) (eqb r APPLY) (copyFits setup) (s .readings .any) (λ g. ne-eqb r RST (λ k. omega (arith, k, eqb-true r APPLY g))) ∙ rw h

@@ -1,3 +1,6 @@
 pub mod Answers
-pub mod Unchanged
+pub mod Frames
+pub mod Stored
 pub mod Within
+pub mod Trimmed
+pub mod Waiting

@@ -1,14 +1,19 @@
--- What a frame is answered with, and the registers as they read (01, "The bus").
-use mathlib.Core.Bool.{Bool, true, false, cond, _||_}
+-- What a frame is answered with, and the registers as they read (01, "The bus"; Change 1).
+use mathlib.Core.Bool.{cond}
 use Prim.Native.Nat.{ℕ}
 use lib.Dec.{eqb, leb}
 use lib.IntN.{ℤ}
 use lib.Ieee.{Float}
 use Rattle.integers.specs.Within.{_within_}
 use Rattle.binary32.specs.Sent.{stepFloat, wholeFloat}
+use Rattle.modbus.specs.Number.{STAT, TEMP, SRAW, CELL, FLAG, CRAW, ELEC, SZ, SYSN, PEAK, TROF, CGAI, APPLY, RST}
 use Rattle.modbus.specs.declared.frame.Frame.{Frame}
 use Rattle.modbus.specs.declared.frame.Frame.the-variants as frame
 use Rattle.modbus.specs.declared.frame.Frame.the-variants.{Read, Write, Act}
+use Rattle.figures.specs.declared.Calibration.{Calibration}
+use Rattle.panel.specs.Figure.{isFigure, figureFloat, InRange}
+use Rattle.state.specs.InForce.{copyFits}
+use Rattle.state.specs.declared.Setup.{Setup}
 use Rattle.state.specs.declared.Readings.{Readings}
 use Rattle.state.specs.declared.State.{State}
 use Rattle.state.specs.declared.registers.Answer.{Answer}
@@ -18,64 +23,51 @@ use Rattle.state.specs.declared.registers.Answer.the-variants.{Value, Do
 -- count in steps. 9 and 10 are the last case, since a judged frame reads no register but listed ones.
 unfoldable pub stepsAt : Readings → ℕ → ℤ
 stepsAt r n =
-    cond (eqb n 11) (r .temp)
-    (cond (eqb n 12) (r .values .sraw)
-    (cond (eqb n 13) (r .values .cell)
-    (cond (eqb n 15) (r .values .craw)
-    (cond (eqb n 16) (r .elec)
-    (cond (eqb n 24) (r .peak)
-    (cond (eqb n 25) (r .trof)
+    cond (eqb n TEMP) (r .temp)
+    (cond (eqb n SRAW) (r .values .sraw)
+    (cond (eqb n CELL) (r .values .cell)
+    (cond (eqb n CRAW) (r .values .craw)
+    (cond (eqb n ELEC) (r .elec)
+    (cond (eqb n PEAK) (r .peak)
+    (cond (eqb n TROF) (r .trof)
     (r .values .sys)))))))
 
 -- "STAT and FLAG go as floats of their whole numbers."
 unfoldable pub readingFloat : Readings → ℕ → Float
-readingFloat r n = cond (eqb n 6) (wholeFloat (r .values .stat)) (stepFloat (stepsAt r n))
+readingFloat r n = cond (eqb n STAT) (wholeFloat (r .values .stat)) (stepFloat (stepsAt r n))
 
 -- 10: "a reading's value .. before the first reading since start or RST"
 unfoldable pub readingAt : Readings → ℕ → Answer
 readingAt r n = cond (r .any) (Value (readingFloat r n)) (Refused 10)
 
--- A listed register. "FLAG and SZ read at all times"; SYSN is 11 "with none taken"; RST 100, SNAP 103 and peak reset 104, the
--- listed ones from 100 on: "reading those three gives 0.0 at any time".
-unfoldable pub registerAt : State → ℤ → ℕ → Answer
-registerAt s sz n =
-    cond (eqb n 14) (Value (wholeFloat (s .flag)))
-    (cond (eqb n 22) (Value (stepFloat sz))
-    (cond (eqb n 23) (cond (s .snapshot .taken) (Value (stepFloat (s .snapshot .sysn))) (Refused 11))
-    (cond (leb 100 n) (Value (wholeFloat 0))
+-- A listed register from CGAI on: "Reads show that copy at all times"; the actions, of which "reading .. gives 0.0 at any time",
+-- "register 99 reads 0.0".
+unfoldable pub panelAt : Calibration → ℕ → Answer
+panelAt copy n = Value (cond (isFigure n) (figureFloat copy n) (wholeFloat 0))
+
+-- A listed register. "FLAG and SZ read at all times"; SYSN is 11 "with none taken".
+unfoldable pub registerAt : State → ℤ → Calibration → ℕ → Answer
+registerAt s sz copy n =
+    cond (leb CGAI n) (panelAt copy n)
+    (cond (eqb n FLAG) (Value (wholeFloat (s .flag)))
+    (cond (eqb n SZ) (Value (stepFloat sz))
+    (cond (eqb n SYSN) (cond (s .snapshot .taken) (Value (stepFloat (s .snapshot .sysn))) (Refused 11))
     (readingAt (s .readings) n))))
 
 -- 10 for SNAP and peak reset
 unfoldable pub onReading : State → Answer
 onReading s = cond (s .readings .any) Done (Refused 10)
 
--- of the three actions only RST (100) needs no reading
-unfoldable pub answered : State → ℤ → Frame → Answer
-answered s sz (frame.Refused n) = Refused n
-answered s sz (Read n) = registerAt s sz n
-answered s sz (Write r x) = Done
-answered s sz (Act r) = cond (eqb r 100) Done (onReading s)
+-- 17: "unfit copy, for register 99"
+unfoldable pub onCopy : Setup → Answer
+onCopy s = cond (copyFits s) Done (Refused 17)
 
--- ---- the same by three tests: a read, a frame that is obeyed, and any other (`answer-obeyed`, `answer-refused`, `proofs/Answers.antt`)
-
-unfoldable pub isRead : Frame → Bool
-isRead (frame.Refused n) = false
-isRead (Read r) = true
-isRead (Write r x) = false
-isRead (Act r) = false
-
-unfoldable pub isObeyed : Readings → Frame → Bool
-isObeyed r (frame.Refused n) = false
-isObeyed r (Read n) = false
-isObeyed r (Write n x) = true
-isObeyed r (Act n) = eqb n 100 || r .any
-
--- the number of a frame that is neither: its own, or 10 of an action without a reading
-unfoldable pub refusalOf : Frame → ℕ
-refusalOf (frame.Refused n) = n
-refusalOf (Read r) = 10
-refusalOf (Write r x) = 10
-refusalOf (Act r) = 10
+-- RST needs nothing, 99 a copy that fits, SNAP and peak reset a reading
+unfoldable pub answered : State → Setup → Frame → Answer
+answered s setup (frame.Refused n) = Refused n
+answered s setup (Read n) = registerAt s (setup .figures .system .sz) (setup .copy) n
+answered s setup (Write r x) = Done
+answered s setup (Act r) = cond (eqb r RST) Done (cond (eqb r APPLY) (onCopy setup) (onReading s))
 
 -- An answer's number: "An accepted call gives 0".
 abbrev pub numberOf : Answer → ℕ
@@ -97,7 +89,8 @@ pub record ReadingsWithin (r : Readings) : Type 0 where
   pub peak-in : (r .peak) within valueMost
   pub trof-in : (r .trof) within valueMost
 
-pub record StateWithin (s : State) (sz : ℤ) : Type 0 where
+pub record StateWithin (s : State) (sz : ℤ) (copy : Calibration) : Type 0 where
   pub readings-in : ReadingsWithin (s .readings)
   pub sysn-in : (s .snapshot .sysn) within valueMost
   pub sz-in : sz within valueMost
+  pub copy-in : InRange copy

@@ -1,11 +1,16 @@
-// What a frame is answered with, and the registers as they read (01, "The bus").
+// What a frame is answered with, and the registers as they read (01, "The bus"; Change 1).
 ghost use mathlib.Core.Path.{_≡_};
-ghost use Rattle.state.specs.Register.{stepsAt, readingFloat, readingAt, registerAt, onReading, answered, isRead, isObeyed, refusalOf, ReadingsWithin, StateWithin};
+ghost use Rattle.panel.specs.Figure.{InRange};
+ghost use Rattle.state.specs.Register.{stepsAt, readingFloat, readingAt, panelAt, registerAt, onReading, onCopy, answered, ReadingsWithin, StateWithin};
 use crate::Readings;
+use crate::Setup;
 use crate::State;
+use crate::in_force::copy_fits;
 use binary32::sent::float_of_steps;
 use binary32::sent::float_of_whole;
+use figures::Calibration;
 use modbus::frame::Frame;
+use modbus::register;
 
 // A value to send; done, and no value to send; or the number that the frame is turned down with.
 pub enum Answer {
@@ -20,13 +25,13 @@ fn steps_at(r: Readings, register: u32) -> i64
 {
     let v = r.values;
     match register {
-        11 => r.temp,
-        12 => v.sraw,
-        13 => v.cell,
-        15 => v.craw,
-        16 => r.elec,
-        24 => r.peak,
-        25 => r.trof,
+        register::TEMP => r.temp,
+        register::SRAW => v.sraw,
+        register::CELL => v.cell,
+        register::CRAW => v.craw,
+        register::ELEC => r.elec,
+        register::PEAK => r.peak,
+        register::TROF => r.trof,
         _ => v.sys,
     }
 }
@@ -35,7 +40,7 @@ fn reading_float(r: Readings, register: u32) -> f32
     requires { ⌜ ReadingsWithin r ⌝ }
     ensures { λ x. ⌜ x ≡ readingFloat r register ⌝ }
 {
-    if register == 6 {
+    if register == register::STAT {
         let v = r.values;
         return float_of_whole(v.stat);
     }
@@ -52,26 +57,37 @@ fn reading_at(r: Readings, register: u32) -> Answer
     Answer::Refused(10)
 }
 
-// FLAG, SZ, SYSN, the three actions; all others are of a reading.
-fn register_at(state: State, sz: i64, register: u32) -> Answer
-    requires { ⌜ StateWithin state sz ⌝ }
-    ensures { λ a. ⌜ a ≡ registerAt state sz register ⌝ }
+// The copy's figures, and the actions.
+fn panel_at(copy: Calibration, register: u32) -> Answer
+    requires { ⌜ InRange copy ⌝ }
+    ensures { λ a. ⌜ a ≡ panelAt copy register ⌝ }
 {
-    if register == 14 {
+    if panel::is_figure(register) {
+        return Answer::Value(panel::figure_float(copy, register));
+    }
+    Answer::Value(float_of_whole(0))
+}
+
+// FLAG, SZ, SYSN; from CGAI on the panel's; all others are of a reading.
+fn register_at(state: State, sz: i64, copy: Calibration, register: u32) -> Answer
+    requires { ⌜ StateWithin state sz copy ⌝ }
+    ensures { λ a. ⌜ a ≡ registerAt state sz copy register ⌝ }
+{
+    if register::CGAI <= register {
+        return panel_at(copy, register);
+    }
+    if register == register::FLAG {
         return Answer::Value(float_of_whole(state.flag));
     }
-    if register == 22 {
+    if register == register::SZ {
         return Answer::Value(float_of_steps(sz));
     }
-    if register == 23 {
+    if register == register::SYSN {
         let snapshot = state.snapshot;
         if snapshot.taken {
             return Answer::Value(float_of_steps(snapshot.sysn));
         }
         return Answer::Refused(11);
-    }
-    if register >= 100 {
-        return Answer::Value(float_of_whole(0));
     }
     reading_at(state.readings, register)
 }
@@ -86,56 +102,36 @@ fn on_reading(state: State) -> Answer
     Answer::Refused(10)
 }
 
-// RST (100) is done at any time, SNAP and peak reset after a reading.
-pub fn answer_to(state: State, sz: i64, frame: Frame) -> Answer
-    requires { ⌜ StateWithin state sz ⌝ }
-    ensures { λ a. ⌜ a ≡ answered state sz frame ⌝ }
+fn on_copy(setup: Setup) -> Answer
+    ensures { λ a. ⌜ a ≡ onCopy setup ⌝ }
+{
+    if copy_fits(setup) {
+        return Answer::Done;
+    }
+    Answer::Refused(17)
+}
+
+// RST is done at any time, 99 where the copy fits, SNAP and peak reset after a reading.
+pub fn answer_to(state: State, setup: Setup, frame: Frame) -> Answer
+    requires { ⌜ StateWithin state (setup .figures .system .sz) (setup .copy) ⌝ }
+    ensures { λ a. ⌜ a ≡ answered state setup frame ⌝ }
 {
     match frame {
         Frame::Refused(number) => Answer::Refused(number),
-        Frame::Read(register) => register_at(state, sz, register),
+        Frame::Read(register) => {
+            let figures = setup.figures;
+            let system = figures.system;
+            register_at(state, system.sz, setup.copy, register)
+        }
         Frame::Act(register) => {
-            if register == 100 {
+            if register == register::RST {
                 return Answer::Done;
+            }
+            if register == register::APPLY {
+                return on_copy(setup);
             }
             on_reading(state)
         }
         Frame::Write(_, _) => Answer::Done,
-    }
-}
-
-// A read: it is answered with a value, or refused.
-pub fn is_read(frame: Frame) -> bool
-    ensures { λ r. ⌜ r ≡ isRead frame ⌝ }
-{
-    match frame {
-        Frame::Read(_) => true,
-        _ => false,
-    }
-}
-
-// A write or an action that is obeyed: RST (100) at any time, SNAP and peak reset after a reading.
-pub fn is_obeyed(readings: Readings, frame: Frame) -> bool
-    ensures { λ r. ⌜ r ≡ isObeyed readings frame ⌝ }
-{
-    match frame {
-        Frame::Write(_, _) => true,
-        Frame::Act(register) => {
-            if register == 100 {
-                return true;
-            }
-            readings.any
-        }
-        _ => false,
-    }
-}
-
-// The number of a frame that is neither: its own, or 10.
-pub fn refusal(frame: Frame) -> u8
-    ensures { λ r. ⌜ r ≡ refusalOf frame ⌝ }
-{
-    match frame {
-        Frame::Refused(number) => number,
-        _ => 10,
     }
 }

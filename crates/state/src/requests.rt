@@ -1,12 +1,12 @@
-// What a frame makes of a device (01, "The bus"). Its bytes are judged before (`modbus`).
+// What a frame makes of a device but for its figures (01, "The bus"). Its bytes are judged before (`modbus`).
 ghost use mathlib.Core.Path.{_≡_};
-ghost use Rattle.state.specs.Request.{fresh as freshState, zeroBy, changesZero, setupBy, changesState, stateBy, snapped, peaksReset, acted, written};
+ghost use Rattle.state.specs.Request.{fresh as freshState, snapped, peaksReset, acted, flagWhole, flagged, stateBy};
 use crate::Readings;
-use crate::Setup;
 use crate::Snapshot;
 use crate::State;
 use compensation::Values;
 use modbus::frame::Frame;
+use modbus::register;
 
 // A start, or RST: no reading, no snapshot, and FLAG says REBOOT.
 pub fn fresh() -> State
@@ -70,32 +70,42 @@ fn reset_peaks(state: State) -> State
     next
 }
 
-// RST (100), SNAP (103) or peak reset.
+// RST, SNAP or peak reset; 99 is none of the state.
 fn act(state: State, register: u32) -> State
     ensures { λ n. ⌜ n ≡ acted state register ⌝ }
 {
-    if register == 100 {
+    if register == register::RST {
         return fresh();
     }
-    if register == 103 {
+    if register == register::SNAP {
         return snap(state);
     }
-    reset_peaks(state)
+    if register == register::PEAK_RESET {
+        return reset_peaks(state);
+    }
+    state
 }
 
-// FLAG (14) keeps the bits that are written; SZ is none of the state.
-fn write(state: State, register: u32, x: f32) -> State
-    ensures { λ n. ⌜ n ≡ written state register x ⌝ }
+// The whole number that is written to FLAG.
+fn flag_whole(x: f32) -> u16
+    ensures { λ r. ⌜ r ≡ flagWhole x ⌝ }
 {
-    if register != 14 {
+    let range = register::range_of(register::FLAG);
+    binary32::received::count(range, x) as u16
+}
+
+// FLAG keeps the bits that are written; SZ and the copy are none of the state.
+fn write(state: State, register: u32, x: f32) -> State
+    ensures { λ n. ⌜ n ≡ flagged state register x ⌝ }
+{
+    if register != register::FLAG {
         return state;
     }
     let mut next = state;
-    next.flag = state.flag & binary32::received::flag_whole(x);
+    next.flag = state.flag & flag_whole(x);
     next
 }
 
-// What a frame makes of all but the figures in force.
 pub fn state_after(state: State, frame: Frame) -> State
     ensures { λ n. ⌜ n ≡ stateBy state frame ⌝ }
 {
@@ -104,53 +114,4 @@ pub fn state_after(state: State, frame: Frame) -> State
         Frame::Act(register) => act(state, register),
         _ => state,
     }
-}
-
-// Can it change anything but the figures in force? A record that is kept in place is written only then.
-pub fn changes_state(frame: Frame) -> bool
-    ensures { λ r. ⌜ r ≡ changesState frame ⌝ }
-{
-    match frame {
-        Frame::Write(register, _) => register == 14,
-        Frame::Act(_) => true,
-        _ => false,
-    }
-}
-
-// Can it change SZ?
-pub fn changes_zero(frame: Frame) -> bool
-    ensures { λ r. ⌜ r ≡ changesZero frame ⌝ }
-{
-    match frame {
-        Frame::Write(register, _) => register != 14,
-        _ => false,
-    }
-}
-
-// SZ after it: a judged frame writes FLAG (14) or SZ.
-pub fn zero_after(sz: i64, frame: Frame) -> i64
-    ensures { λ r. ⌜ r ≡ zeroBy sz frame ⌝ }
-{
-    match frame {
-        Frame::Write(register, x) => {
-            if register == 14 {
-                return sz;
-            }
-            binary32::received::zero_steps(x)
-        }
-        _ => sz,
-    }
-}
-
-// The figures in force after it.
-pub fn setup_after(setup: Setup, frame: Frame) -> Setup
-    ensures { λ n. ⌜ n ≡ setupBy setup frame ⌝ }
-{
-    let mut figures = setup.figures;
-    let mut system = figures.system;
-    system.sz = zero_after(system.sz, frame);
-    figures.system = system;
-    let mut next = setup;
-    next.figures = figures;
-    next
 }

@@ -4,19 +4,19 @@ use Prim.Native.Nat.{ℕ}
 use borrow.Author.Tests.{eq-eqb, ne-eqb}
 use lib.Bits.{bitAnd}
 use lib.Ieee.{Float}
-use Rattle.binary32.specs.Received.{flagWhole}
+use Rattle.modbus.specs.Number.{FLAG}
 use Rattle.state.specs.declared.State.{State}
-use Rattle.state.specs.Request.{written}
+use Rattle.state.specs.Request.{flagWhole, flagged}
 use Rattle.state.proofs.requests.write.Statement.{statement}
 use Rattle.state.proofs.requests.write.Tie as tie
 
-cleared : (s : State) (r : ℕ) (x : Float) {kept : ℕ} → r ≡ 14 → kept ≡ flagWhole x
-    → record { readings = s .readings; flag = bitAnd (s .flag) kept; snapshot = s .snapshot } ≡ written s r x
-unfolding written
-cleared s r x e k = rw (eq-eqb r 14 e, k)
+cleared : (s : State) (r : ℕ) (x : Float) {kept : ℕ} → r ≡ FLAG → kept ≡ flagWhole x
+    → record { readings = s .readings; flag = bitAnd (s .flag) kept; snapshot = s .snapshot } ≡ flagged s r x
+unfolding flagged
+cleared s r x e k = rw (eq-eqb r FLAG e, k)
 
 returns : tie.Need-returns
-unfolding written
+unfolding flagged
 returns c = simp (ne-eqb _ _ (c .if1 .taken))
 
 returns-2 : tie.Need-returns-2
