@@ -1,7 +1,7 @@
 -- What follows for single calls: refused calls, silence and exceptions, and what each accepted request does, as the next read shows
 -- it. Assumes nothing.
 use mathlib.Core.Path.{_≡_, refl, sym, ap, _∙_, subst}
-use mathlib.Core.Bool.{Bool, true, false, cond, _||_, _&&_}
+use mathlib.Core.Bool.{Bool, true, false, cond, _||_, _&&_, true≢false}
 use mathlib.Core.List.{List, [], _∷_, _++_}
 use Prim.Native.Nat.{ℕ, _≤_}
 use native.Mathlib.Omega.{arith}
@@ -13,7 +13,17 @@ use lib.ListN.{length, take, drop}
 use borrow.Author.Tests.{eq-eqb, ne-eqb, le-ltb}
 use Rattle.integers.proofs.Machine.{and-left}
 use Rattle.integers.proofs.Order.{is-true}
-use Rattle.binary32.specs.Received.{zeroSteps, flagWhole}
+use Rattle.binary32.specs.Received.{counted}
+use Rattle.binary32.specs.Sent.{countFloat}
+use Rattle.figures.specs.Unused.{unusedZero}
+use Rattle.figures.specs.declared.Calibration.{Calibration}
+use Rattle.modbus.specs.Number.{FLAG, SZ, SYSN, PEAK, TROF, APPLY, RST, SNAP, PEAKRESET}
+use Rattle.modbus.specs.Register.{rangeOf}
+use Rattle.panel.specs.Figure.{figureAt, isFigure, withFigure, written}
+use Rattle.panel.proofs.Places.{read-written, others-kept, counts-written}
+use Rattle.state.proofs.Answers.{answer-obeyed}
+use Rattle.converter.proofs.Entries.{unobeyed}
+use Rattle.converter.proofs.Reached.{reached-sound}
 use Rattle.binary32.specs.Sent.{stepFloat, wholeFloat}
 use Rattle.modbus.specs.Checksum.{framed}
 use Rattle.modbus.specs.Frame.{stationOf, functionOf, forUs, toUs, checked, judged}
@@ -23,42 +33,29 @@ use Rattle.modbus.specs.declared.frame.Frame.{Frame}
 use Rattle.modbus.specs.declared.frame.Frame.the-variants as asks
 use Rattle.modbus.specs.declared.frame.Frame.the-variants.{Read, Write, Act}
 use Rattle.state.specs.Reading.{badReading, taken}
-use Rattle.state.specs.Request.{zeroBy, acted, written, stateBy, fresh, snapped, peaksAt, peaksReset}
-use Rattle.state.specs.Register.{stepsAt, readingFloat, readingAt, registerAt, onReading, answered, numberOf}
+use Rattle.state.specs.InForce.{withFigures, withCopy, zeroSteps, offered, copyFits, applied, setupWritten, setupActed, setupBy}
+use Rattle.state.specs.Request.{flagWhole, acted, flagged, stateBy, fresh, snapped, peaksAt, peaksReset}
+use Rattle.state.specs.Register.{stepsAt, readingFloat, readingAt, registerAt, answered, onCopy, numberOf}
+use Rattle.state.specs.Parts.{obeys}
 use Rattle.state.specs.Report.{reported}
 use Rattle.state.specs.declared.State.{State}
 use Rattle.state.specs.declared.registers.Answer.{Answer}
 use Rattle.state.specs.declared.registers.Answer.the-variants.{Value, Done, Refused}
 use Rattle.converter.specs.Making.{started}
 use Rattle.converter.specs.Call.{Call, reading, frame, report, obeyed, read, step, answerTo, number, replyWith, reply}
-use Rattle.converter.specs.Reached.{Serving}
+use Rattle.converter.specs.Reached.{Reached, Serving}
 use Rattle.converter.specs.History.{Shows}
 use Rattle.converter.specs.declared.Device.{Device}
 use Rattle.converter.specs.declared.Served.{Served}
 
 -- ---- "No refusal changes a device"
 
-unless-any : (d : Device) (any : Bool) (t : State) → (numberOf (cond any Done (Refused 10)) ≡ 0 → ⊥) → record { setup = d .setup; state = cond any t (d .state) } ≡ d
-unless-any d true t h = absurd (h refl)
-unless-any d false t h = refl
-
-acted-unchanged : (d : Device) (rst snap : Bool) → (numberOf (cond rst Done (onReading (d .state))) ≡ 0 → ⊥)
-    → record { setup = d .setup; state = cond rst fresh (cond snap (snapped (d .state)) (peaksReset (d .state))) } ≡ d
-unfolding onReading snapped peaksReset
-acted-unchanged d true snap h = absurd (h refl)
-acted-unchanged d false true h =
-    let s = d .state in
-    unless-any d (s .readings .any) (record { readings = s .readings; flag = s .flag; snapshot = record { taken = true; sysn = s .readings .values .sys } }) h
-acted-unchanged d false false h =
-    let s = d .state in
-    unless-any d (s .readings .any) (record { readings = peaksAt (s .readings); flag = s .flag; snapshot = s .snapshot }) h
-
-obeyed-unchanged : (d : Device) (sz : ℤ) (f : Frame) → (numberOf (answered (d .state) sz f) ≡ 0 → ⊥) → obeyed d f ≡ d
-unfolding zeroBy stateBy acted answered
-obeyed-unchanged d sz (asks.Refused n) h = refl
-obeyed-unchanged d sz (Read n) h = refl
-obeyed-unchanged d sz (Write r x) h = absurd (h refl)
-obeyed-unchanged d sz (Act r) h = acted-unchanged d (eqb r 100) (eqb r 103) h
+obeyed-unchanged : (d : Device) (f : Frame) → (numberOf (answered (d .state) (d .setup) f) ≡ 0 → ⊥) → obeyed d f ≡ d
+obeyed-unchanged d f h = by (obeys (d .state) (d .setup) f) refl
+  where
+    by : (b : Bool) → obeys (d .state) (d .setup) f ≡ b → obeyed d f ≡ d
+    by true e = absurd (h (ap numberOf (answer-obeyed (d .state) (d .setup) f e)))
+    by false e = unobeyed d f e
 
 pub refused-unchanged : (d : Device) (c : Call) → (number d c ≡ 0 → ⊥) → step d c ≡ d
 unfolding answerTo
@@ -67,7 +64,7 @@ refused-unchanged d (reading elec temp integrity) h = go (badReading elec temp i
     go : (b : Bool) → (_≡_ {A = ℕ} (cond b 9 0) 0 → ⊥) → cond b d (read d elec temp integrity) ≡ d
     go true k = refl
     go false k = absurd (k refl)
-refused-unchanged d (frame bytes room) h = obeyed-unchanged d (d .setup .figures .system .sz) (judged bytes room (d .setup .station)) h
+refused-unchanged d (frame bytes room) h = obeyed-unchanged d (judged bytes room (d .setup .station)) h
 refused-unchanged d report h = refl
 
 -- ---- the length replied is within the lent buffer
@@ -199,55 +196,84 @@ unfolding answerTo answered
 read-replies d s room n x e shows = (ap numberOf same, ap (replyWith s room) same)
   where
     same : answerTo d s room ≡ Value x
-    same = ap (λ (f : Frame). answered (d .state) (d .setup .figures .system .sz) f) e ∙ shows
+    same = ap (λ (f : Frame). answered (d .state) (d .setup) f) e ∙ shows
 
 module _ (d : Device) (s : List ℕ) (room : ℕ) where
   abbrev pub after : Device
   after = step d (frame s room)
 
-  obeys : (f : Frame) → judged s room (d .setup .station) ≡ f → after ≡ obeyed d f
-  obeys f e = ap (λ (g : Frame). obeyed d g) e
+  does : (f : Frame) → judged s room (d .setup .station) ≡ f → after ≡ obeyed d f
+  does f e = ap (λ (g : Frame). obeyed d g) e
 
   -- "SNAP copies SYS to SYSN"
-  pub snap-shown : judged s room (d .setup .station) ≡ Act 103 → d .state .readings .any ≡ true → Shows after 23 (stepFloat (d .state .readings .values .sys))
-  unfolding zeroBy acted stateBy snapped registerAt
+  pub snap-shown : judged s room (d .setup .station) ≡ Act SNAP → d .state .readings .any ≡ true → Shows after SYSN (stepFloat (d .state .readings .values .sys))
+  unfolding setupBy setupActed acted stateBy snapped registerAt
   snap-shown e any =
       let t = d .state in
       let taken : State = record { readings = t .readings; flag = t .flag; snapshot = record { taken = true; sysn = t .readings .values .sys } } in
-      subst (λ (g : Device). Shows g 23 (stepFloat (t .readings .values .sys))) (sym (obeys (Act 103) e ∙ ap (λ (b : Bool). record { setup = d .setup; state = cond b taken t }) any)) refl
+      subst (λ (g : Device). Shows g SYSN (stepFloat (t .readings .values .sys))) (sym (does (Act SNAP) e ∙ ap (λ (b : Bool). record { setup = d .setup; state = cond b taken t }) any)) refl
 
   -- a written SZ
-  pub zero-shown : (x : Float) → judged s room (d .setup .station) ≡ Write 22 x → Shows after 22 (stepFloat (zeroSteps x)) × (after .state ≡ d .state)
-  unfolding zeroBy stateBy written registerAt
-  zero-shown x e = (subst (λ (g : Device). Shows g 22 (stepFloat (zeroSteps x))) (sym (obeys (Write 22 x) e)) refl, ap (λ (g : Device). g .state) (obeys (Write 22 x) e))
+  pub zero-shown : (x : Float) → judged s room (d .setup .station) ≡ Write SZ x → Shows after SZ (stepFloat (zeroSteps x)) × (after .state ≡ d .state)
+  unfolding setupBy setupWritten isFigure stateBy flagged registerAt
+  zero-shown x e = (subst (λ (g : Device). Shows g SZ (stepFloat (zeroSteps x))) (sym (does (Write SZ x) e)) refl, ap (λ (g : Device). g .state) (does (Write SZ x) e))
 
   -- "a FLAG write clears the bits it lacks"
-  pub flag-shown : (x : Float) → judged s room (d .setup .station) ≡ Write 14 x → Shows after 14 (wholeFloat (bitAnd (d .state .flag) (flagWhole x)))
-  unfolding zeroBy stateBy written registerAt
-  flag-shown x e = subst (λ (g : Device). Shows g 14 (wholeFloat (bitAnd (d .state .flag) (flagWhole x)))) (sym (obeys (Write 14 x) e)) refl
+  pub flag-shown : (x : Float) → judged s room (d .setup .station) ≡ Write FLAG x → Shows after FLAG (wholeFloat (bitAnd (d .state .flag) (flagWhole x)))
+  unfolding setupBy setupWritten isFigure stateBy flagged registerAt
+  flag-shown x e = subst (λ (g : Device). Shows g FLAG (wholeFloat (bitAnd (d .state .flag) (flagWhole x)))) (sym (does (Write FLAG x) e)) refl
 
-  -- "RST forgets readings, snapshot and filter", keeps SZ and leaves FLAG 32768: the device is one just started
-  pub rst-starts : judged s room (d .setup .station) ≡ Act 100 → after ≡ started (d .setup)
-  unfolding zeroBy acted stateBy
-  rst-starts e = obeys (Act 100) e
+  -- "RST forgets readings, snapshot and filter", keeps the figures, sets the copy back to them and leaves FLAG 32768: the device is one just
+  -- started
+  pub rst-starts : judged s room (d .setup .station) ≡ Act RST → after ≡ started (withCopy (d .setup) (unusedZero (d .setup .figures)))
+  unfolding setupBy setupActed acted stateBy
+  rst-starts e = does (Act RST) e
 
   -- so the next reads show REBOOT, the SZ that was in force and no snapshot, and a report is refused
-  pub rst-shown : judged s room (d .setup .station) ≡ Act 100
-      → Shows after 14 (wholeFloat 32768) × Shows after 22 (stepFloat (d .setup .figures .system .sz)) × (registerAt (after .state) (after .setup .figures .system .sz) 23 ≡ Refused 11) × (reported (after .state .readings) .number ≡ 10)
+  pub rst-shown : judged s room (d .setup .station) ≡ Act RST
+      → Shows after FLAG (wholeFloat 32768) × Shows after SZ (stepFloat (d .setup .figures .system .sz)) × (registerAt (after .state) (after .setup .figures .system .sz) (after .setup .copy) SYSN ≡ Refused 11) × (reported (after .state .readings) .number ≡ 10)
   unfolding registerAt fresh reported
   rst-shown e =
       subst
-      (λ (g : Device). Shows g 14 (wholeFloat 32768) × Shows g 22 (stepFloat (d .setup .figures .system .sz)) × (registerAt (g .state) (g .setup .figures .system .sz) 23 ≡ Refused 11) × (reported (g .state .readings) .number ≡ 10))
+      (λ (g : Device). Shows g FLAG (wholeFloat 32768) × Shows g SZ (stepFloat (d .setup .figures .system .sz)) × (registerAt (g .state) (g .setup .figures .system .sz) (g .setup .copy) SYSN ≡ Refused 11) × (reported (g .state .readings) .number ≡ 10))
       (sym (rst-starts e))
       (refl, refl, refl, refl)
 
   -- "a peak reset, which sets both to the present SYS"
-  pub peaks-shown : judged s room (d .setup .station) ≡ Act 104 → d .state .readings .any ≡ true
-      → Shows after 24 (stepFloat (d .state .readings .values .sys)) × Shows after 25 (stepFloat (d .state .readings .values .sys))
-  unfolding zeroBy acted stateBy peaksReset registerAt readingAt readingFloat stepsAt
+  pub peaks-shown : judged s room (d .setup .station) ≡ Act PEAKRESET → d .state .readings .any ≡ true
+      → Shows after PEAK (stepFloat (d .state .readings .values .sys)) × Shows after TROF (stepFloat (d .state .readings .values .sys))
+  unfolding setupBy setupActed acted stateBy peaksReset registerAt readingAt readingFloat stepsAt
   peaks-shown e any =
       let t = d .state in
       let reset : State = record { readings = peaksAt (t .readings); flag = t .flag; snapshot = t .snapshot } in
       let sys : Float = stepFloat (t .readings .values .sys) in
       let sent : cond (t .readings .any) (Value sys) (Refused 10) ≡ Value sys = ap (λ (b : Bool). cond b (Value sys) (Refused 10)) any in
-      subst (λ (g : Device). Shows g 24 sys × Shows g 25 sys) (sym (obeys (Act 104) e ∙ ap (λ (b : Bool). record { setup = d .setup; state = cond b reset t }) any)) (sent, sent)
+      subst (λ (g : Device). Shows g PEAK sys × Shows g TROF sys) (sym (does (Act PEAKRESET) e ∙ ap (λ (b : Bool). record { setup = d .setup; state = cond b reset t }) any)) (sent, sent)
+
+  -- an accepted write to 99 puts the copy in force, all but SZ, and touches nothing else; `read` (`specs/Call.antt`) takes the next
+  -- reading by these figures
+  pub copy-applied : judged s room (d .setup .station) ≡ Act APPLY → copyFits (d .setup) ≡ true
+      → after ≡ record { setup = withFigures (d .setup) (offered (d .setup .figures .system .sz) (d .setup .copy)); state = d .state }
+  unfolding setupBy setupActed applied acted stateBy
+  copy-applied e f = does (Act APPLY) e ∙ rw f
+
+  -- and one that is refused, with 17, nothing
+  pub copy-refused : judged s room (d .setup .station) ≡ Act APPLY → copyFits (d .setup) ≡ false → (number d (frame s room) ≡ 17) × (after ≡ d)
+  unfolding setupBy setupActed applied acted stateBy answerTo answered onCopy
+  copy-refused e f = (rw (e, f), does (Act APPLY) e ∙ rw f)
+
+  -- a written figure: its own register shows it, every other of the copy what it showed, and nothing else changes
+  pub figure-shown : Reached d → (n : ℕ) (x : Float) → isFigure n ≡ true → judged s room (d .setup .station) ≡ Write n x
+      → (figureAt (after .setup .copy) n ≡ counted (rangeOf n) x) × ((m : ℕ) → (m ≡ n → ⊥) → figureAt (after .setup .copy) m ≡ figureAt (d .setup .copy) m) × (after .setup .figures ≡ d .setup .figures) × (after .state ≡ d .state)
+  unfolding setupBy setupWritten stateBy flagged written isFigure
+  figure-shown h n x f e =
+      let r = reached-sound h .setup-ok .copy-representable in
+      let z = counted (rangeOf n) x in
+      let is : after ≡ record { setup = withCopy (d .setup) (withFigure n z (d .setup .copy)); state = d .state } = does (Write n x) e ∙ rw (not-at SZ refl, not-at FLAG refl, f) in
+      subst
+      (λ (g : Device). (figureAt (g .setup .copy) n ≡ z) × ((m : ℕ) → (m ≡ n → ⊥) → figureAt (g .setup .copy) m ≡ figureAt (d .setup .copy) m) × (g .setup .figures ≡ d .setup .figures) × (g .state ≡ d .state))
+      (sym is)
+      (read-written n z (d .setup .copy) r (counts-written n x) f, λ m ne. others-kept n z (d .setup .copy) r (counts-written n x) m ne, refl, refl)
+    where
+      not-at : (k : ℕ) → isFigure k ≡ false → eqb n k ≡ false
+      not-at k g = ne-eqb n k (λ p. true≢false (sym f ∙ ap isFigure p ∙ g))

@@ -15,13 +15,18 @@ use Rattle.compensation.specs.declared.steps.CellValues.{CellValues}
 use Rattle.compensation.specs.declared.steps.Input.{Input}
 use Rattle.compensation.specs.declared.steps.Values.{Values}
 use Rattle.compensation.proofs.Magnitudes.{cell-input, values-input}
+use Rattle.modbus.specs.Number.{APPLY, RST, SNAP, PEAKRESET}
 use Rattle.modbus.specs.Frame.{judged}
 use Rattle.modbus.specs.declared.frame.Frame.{Frame}
 use Rattle.modbus.specs.declared.frame.Frame.the-variants as asks
 use Rattle.modbus.specs.declared.frame.Frame.the-variants.{Read, Write, Act}
 use Rattle.state.specs.Reading.{badReading, heldAfter, taken, takenWith}
-use Rattle.state.specs.Request.{zeroBy, setupBy, fresh, snapped, peaksReset, acted, stateBy}
-use Rattle.state.specs.Register.{answered, isRead, isObeyed, numberOf}
+use borrow.Author.Tests.{ne-eqb, eqb-true}
+use native.Mathlib.Omega.{arith}
+use Rattle.state.specs.InForce.{copyFits, applied, setupActed, setupBy}
+use Rattle.state.specs.Request.{fresh, snapped, peaksReset, acted, stateBy}
+use Rattle.state.specs.Register.{answered, numberOf}
+use Rattle.state.specs.Parts.{isRead, applies, isObeyed, obeys}
 use Rattle.state.specs.declared.Setup.{Setup}
 use Rattle.state.specs.declared.State.{State}
 use Rattle.converter.specs.Call as call
@@ -44,21 +49,21 @@ module _ {d : Device} (h : Reached d) (elec temp : ℤ) (integrity : ℕ) where
   -- a good one: what each function that is called asks, by what those before it gave
   module _ (good : badReading elec temp integrity ≡ false) where
     pub filters : FilterInput (d .setup .figures .filter) (d .state .readings .elec) elec
-    filters = let s = reached-sound h in record { acceptable = s .acceptable .filter-ok; held-in = s .state-ok .readings-ok .held-in; input-in = good-elec elec temp integrity good }
+    filters = let s = reached-sound h in record { acceptable = s .setup-ok .acceptable .filter-ok; held-in = s .state-ok .readings-ok .held-in; input-in = good-elec elec temp integrity good }
 
     pub adjusts : TemperatureAcceptable (d .setup .figures .temperature)
-    adjusts = reached-sound h .acceptable .temperature-ok
+    adjusts = reached-sound h .setup-ok .acceptable .temperature-ok
 
     kept : (heldAfter (d .setup .figures) (d .state .readings) elec) within elecMost
-    kept = let s = reached-sound h in held-within (d .setup .figures) (d .state .readings) elec (s .acceptable) (s .state-ok .readings-ok .held-in) (good-elec elec temp integrity good)
+    kept = let s = reached-sound h in held-within (d .setup .figures) (d .state .readings) elec (s .setup-ok .acceptable) (s .state-ok .readings-ok .held-in) (good-elec elec temp integrity good)
 
     module _ {held : ℤ} {i : Input} (held-is : held ≡ heldAfter (d .setup .figures) (d .state .readings) elec) (i-is : i ≡ inputAt (d .setup .figures .temperature) held temp) where
       pub corrects : CellInput (d .setup .figures .cell) (d .setup .figures .linearity) i
-      corrects = rw (i-is, held-is) (cell-input (d .setup .figures) _ temp (reached-sound h .acceptable) kept)
+      corrects = rw (i-is, held-is) (cell-input (d .setup .figures) _ temp (reached-sound h .setup-ok .acceptable) kept)
 
       module _ {k : CellValues} (k-is : k ≡ cellValuesAt (d .setup .figures .cell) (d .setup .figures .linearity) i) where
         pub scales : ValuesInput (d .setup .figures .cell) (d .setup .figures .system) k
-        scales = rw (k-is, i-is, held-is) (values-input (d .setup .figures) _ temp (reached-sound h .acceptable) kept)
+        scales = rw (k-is, i-is, held-is) (values-input (d .setup .figures) _ temp (reached-sound h .setup-ok .acceptable) kept)
 
         -- and what the state that is given last makes of the device
         pub joins : {v : Values} {s : State} → v ≡ valuesFrom (d .setup .figures .cell) (d .setup .figures .system) k held temp integrity → s ≡ takenWith (d .state) held temp v
@@ -68,37 +73,48 @@ module _ {d : Device} (h : Reached d) (elec temp : ℤ) (integrity : ℕ) where
 
 -- ---- a frame
 
--- an action whose two tests fail: it is not RST, and there is no reading
-not-acted : (s : State) (rst snap : Bool) → rst || s .readings .any ≡ false → cond rst fresh (cond snap (snapped s) (peaksReset s)) ≡ s
+-- an action whose tests fail: 99 with a copy that does not fit; or one that is not RST, with no reading
+not-acted : (d : Device) (apply rst snap reset fits : Bool) (s t : Setup) → (apply ≡ true → (rst ≡ false) × (snap ≡ false) × (reset ≡ false)) → cond apply fits (rst || d .state .readings .any) ≡ false
+    → record {
+      setup = cond apply (cond fits s (d .setup)) (cond rst t (d .setup));
+      state = cond rst fresh (cond snap (snapped (d .state)) (cond reset (peaksReset (d .state)) (d .state)));
+    } ≡ d
 unfolding snapped peaksReset
-not-acted s true snap e = absurd (true≢false e)
-not-acted s false true e = rw e
-not-acted s false false e = rw e
+not-acted d true rst snap reset fits s t n e = rw (e, n refl .0, n refl .1, n refl .2)
+not-acted d false true snap reset fits s t n e = absurd (true≢false e)
+not-acted d false false true reset fits s t n e = rw e
+not-acted d false false false true fits s t n e = rw e
+not-acted d false false false false fits s t n e = refl
 
 -- a frame that is not obeyed leaves the device
-pub unobeyed : (d : Device) (f : Frame) → isObeyed (d .state .readings) f ≡ false → obeyed d f ≡ d
-unfolding isObeyed zeroBy stateBy acted
+pub unobeyed : (d : Device) (f : Frame) → obeys (d .state) (d .setup) f ≡ false → obeyed d f ≡ d
+unfolding applies isObeyed setupBy setupActed applied stateBy acted
 unobeyed d (asks.Refused n) e = refl
 unobeyed d (Read n) e = refl
 unobeyed d (Write r x) e = absurd (true≢false e)
-unobeyed d (Act r) e = ap (λ (s : State). record { setup = d .setup; state = s }) (not-acted (d .state) (eqb r 100) (eqb r 103) e)
+unobeyed d (Act r) e =
+    not-acted d (eqb r APPLY) (eqb r RST) (eqb r SNAP) (eqb r PEAKRESET) (copyFits (d .setup)) _ _
+    (λ g. (no g RST (λ h. omega (arith, h)), no g SNAP (λ h. omega (arith, h)), no g PEAKRESET (λ h. omega (arith, h)))) e
+  where
+    no : eqb r APPLY ≡ true → (k : ℕ) → (k ≡ APPLY → ⊥) → eqb r k ≡ false
+    no g k ne = ne-eqb r k (λ h. ne (sym h ∙ eqb-true r APPLY g))
 
 -- and so does a read
 pub read-unobeyed : (d : Device) (f : Frame) → isRead f ≡ true → obeyed d f ≡ d
-unfolding isRead zeroBy stateBy
+unfolding isRead setupBy stateBy
 read-unobeyed d (asks.Refused n) e = absurd (false≢true e)
 read-unobeyed d (Read n) e = refl
 read-unobeyed d (Write r x) e = absurd (false≢true e)
 read-unobeyed d (Act r) e = absurd (false≢true e)
 
 pub serves : {d : Device} → Reached d → (bytes before after : List ℕ) {f : Frame} {n m : ℕ} {s : Setup} {t : State}
-    → f ≡ judged bytes (length before) (d .setup .station) → Answering (answered (d .state) (d .setup .figures .system .sz) f) bytes before after (record { number = n; length = m })
+    → f ≡ judged bytes (length before) (d .setup .station) → Answering (answered (d .state) (d .setup) f) bytes before after (record { number = n; length = m })
     → s ≡ setupBy (d .setup) f → t ≡ stateBy (d .state) f → Serving d bytes before after (record { number = n; length = m; device = record { setup = s; state = t } })
 unfolding answerTo
 serves {d} h bytes before after {s} {t} what answers setup-is state-is =
     let after-it : record { setup = s; state = t } ≡ step d (call.frame bytes (length before)) = rw (setup-is, state-is, what) in
     record {
-      number-is = answers .number-is ∙ ap (λ (g : Frame). numberOf (answered (d .state) (d .setup .figures .system .sz) g)) what;
+      number-is = answers .number-is ∙ ap (λ (g : Frame). numberOf (answered (d .state) (d .setup) g)) what;
       device-is = after-it;
       replied = rw what at answers .replied;
       reached = subst Reached (sym after-it) (reached-step h (call.frame bytes (length before)));

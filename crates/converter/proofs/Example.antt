@@ -16,13 +16,17 @@ use Rattle.compensation.specs.Filter.{filtered}
 use Rattle.compensation.specs.Reading.{scaled, yAt, rawCellAt, crawAt, cellAt, rawSystemAt, srawAt, sysAt}
 use Rattle.compensation.specs.Stat.{bitAt, Raised, crawor, statOf}
 use Rattle.compensation.specs.Values.{cellValuesAt, valuesFrom, valuesAt}
-use Rattle.binary32.specs.Received.{zeroFits, nearestStep, zeroSteps}
+use Rattle.binary32.specs.Received.{takes, nearest, counted}
+use Rattle.figures.specs.Unused.{unusedZero}
 use Rattle.modbus.specs.Checksum.{shifted, shifts, taken}
-use Rattle.modbus.specs.Register.{accessOf}
+use Rattle.modbus.specs.Register.{accessOf, rangeOf}
 use Rattle.modbus.specs.Frame.{checked, toUs, forUs, accessAsked, writeOf, writeAsked, judged}
 use Rattle.state.specs.Reading as reading
 use Rattle.state.specs.Reading.{outside, badReading, larger, smaller, peakAfter, trofAfter, joined}
-use Rattle.state.specs.Request.{zeroBy, fresh, snapped, acted, written, stateBy}
+use Rattle.panel.specs.Figure.{isFigure, written, cellWith, temperaturePointWith, temperatureWith, linearityPointWith, linearityWith, systemWith, filterWith, withFigure}
+use Rattle.sheet.specs.Judge.{shortOf, wrongCount, beyond, notBelow, tooSteep, cellNumber, temperatureNumber, temperaturePointNumber, linearityNumber, linearityPointNumber, systemNumber, filterNumber, sectionsNumber, figuresNumber}
+use Rattle.state.specs.InForce.{copyFits, applied, setupWritten, setupActed, setupBy}
+use Rattle.state.specs.Request.{fresh, snapped, acted, flagged, stateBy}
 use Rattle.converter.specs.Making.{stationFits, started, made}
 use Rattle.converter.specs.Call as call
 use Rattle.converter.specs.Call.{Call, run}
@@ -32,18 +36,20 @@ use Rattle.converter.specs.declared.Outcome.{Outcome}
 
 -- the default figures, at station 52
 abbrev start : Device
-start = started (record { figures = defaultSheet; station = 52 })
+start = started (record { figures = defaultSheet; copy = defaultSheet; station = 52 })
 
 pub default-made : made (sheetBytes defaultSheet) 52 ≡ record { number = 0; device = start }
-unfolding made stationFits
+unfolding made stationFits unusedZero defaultSheet
 default-made = rw default-read
 
--- ELEC 9,830,401, one step above the range of 150; SNAP; SZ 10.0
+-- ELEC 9,830,401, one step above the range of 150; SNAP; SZ 10.0; CGAI 2.0 to the copy; 99
 abbrev calls : List Call
 calls =
     call.reading (pos 9830401) (pos 0) 0
     ∷ call.frame (0x34 ∷ 0x10 ∷ 0x00 ∷ 0xCE ∷ 0x00 ∷ 0x02 ∷ 0x04 ∷ 0x00 ∷ 0x00 ∷ 0x00 ∷ 0x00 ∷ 0x90 ∷ 0xBF ∷ []) 9
     ∷ call.frame (0x34 ∷ 0x10 ∷ 0x00 ∷ 0x2C ∷ 0x00 ∷ 0x02 ∷ 0x04 ∷ 0x00 ∷ 0x00 ∷ 0x41 ∷ 0x20 ∷ 0x2E ∷ 0xA6 ∷ []) 9
+    ∷ call.frame (0x34 ∷ 0x10 ∷ 0x00 ∷ 0x50 ∷ 0x00 ∷ 0x02 ∷ 0x04 ∷ 0x00 ∷ 0x00 ∷ 0x40 ∷ 0x00 ∷ 0x29 ∷ 0x9F ∷ []) 9
+    ∷ call.frame (0x34 ∷ 0x10 ∷ 0x00 ∷ 0xC6 ∷ 0x00 ∷ 0x02 ∷ 0x04 ∷ 0x00 ∷ 0x00 ∷ 0x00 ∷ 0x00 ∷ 0x91 ∷ 0x19 ∷ []) 9
     ∷ []
 
 pub record Example (d : Device) : Type 0 where
@@ -54,10 +60,10 @@ pub record Example (d : Device) : Type 0 where
   pub snapshot : d .state .snapshot .taken ≡ true
   pub sysn : d .state .snapshot .sysn ≡ pos 9830400
   pub sz : d .setup .figures .system .sz ≡ pos 655360
+  pub cgai : d .setup .figures .cell .cgai ≡ pos 536870912
 
 pub example : Example (run start calls)
-unfolding roundDiv floorDiv between interpolated defaultSheet temperatures linearities hold filtered scaled yAt rawCellAt crawAt cellAt rawSystemAt srawAt sysAt bitAt statOf cellValuesAt valuesFrom valuesAt zeroFits nearestStep
-    zeroSteps ofBits shifted shifts taken accessOf checked toUs forUs accessAsked writeOf writeAsked judged outside badReading larger smaller peakAfter trofAfter joined reading.takenWith reading.taken zeroBy fresh snapped acted written stateBy
+unfolding roundDiv floorDiv between interpolated defaultSheet temperatures linearities hold filtered scaled yAt rawCellAt crawAt cellAt rawSystemAt srawAt sysAt bitAt statOf cellValuesAt valuesFrom valuesAt takes nearest counted rangeOf ofBits shifted shifts taken accessOf checked toUs forUs accessAsked writeOf writeAsked judged outside badReading larger smaller peakAfter trofAfter joined reading.takenWith reading.taken unusedZero isFigure written cellWith temperaturePointWith temperatureWith linearityPointWith linearityWith systemWith filterWith withFigure shortOf wrongCount beyond notBelow tooSteep cellNumber temperatureNumber temperaturePointNumber linearityNumber linearityPointNumber systemNumber filterNumber sectionsNumber figuresNumber copyFits applied setupWritten setupActed setupBy fresh snapped acted flagged stateBy
 example = record {
   reached = record { sheet = sheetBytes defaultSheet; station = 52; accepted = ap (λ (r : Outcome). r .number) default-made; calls = calls; is = sym (ap (λ (r : Outcome). run (r .device) calls) default-made) };
   reading = refl;
@@ -66,4 +72,5 @@ example = record {
   snapshot = refl;
   sysn = refl;
   sz = refl;
+  cgai = refl;
 }

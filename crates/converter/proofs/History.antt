@@ -16,12 +16,15 @@ use Rattle.compensation.specs.Filter.{elecMost, filtered}
 use Rattle.compensation.specs.Values.{valuesOf}
 use Rattle.compensation.specs.declared.steps.Values.{Values}
 use Rattle.compensation.proofs.Faithful.{faithful}
-use Rattle.binary32.specs.Received.{zeroSteps, flagWhole}
+use borrow.Author.Tests.{ne-eqb, eqb-true}
+use native.Mathlib.Omega.{arith}
+use Rattle.modbus.specs.Number.{FLAG, RST, SNAP, PEAKRESET}
 use Rattle.modbus.specs.Frame.{judged}
 use Rattle.modbus.specs.declared.frame.Frame.{Frame}
 use Rattle.modbus.specs.declared.frame.Frame.the-variants.{Refused, Read, Write, Act}
 use Rattle.state.specs.Reading.{badReading, peakAfter, trofAfter, joined, heldAfter, taken, takenWith}
-use Rattle.state.specs.Request.{reboot, withZero, zeroBy, fresh, snapped, peaksAt, peaksReset, acted, written, stateBy}
+use Rattle.state.specs.InForce.{setupBy}
+use Rattle.state.specs.Request.{reboot, flagWhole, fresh, snapped, peaksAt, peaksReset, acted, flagged, stateBy}
 use Rattle.state.specs.declared.Setup.{Setup}
 use Rattle.state.specs.declared.Readings.{Readings}
 use Rattle.state.specs.declared.State.{State}
@@ -34,7 +37,7 @@ use Rattle.converter.specs.History.{sysSince, Largest, Smallest, Right, 
 use Rattle.converter.proofs.Events.{Latched, latch-raised, latch-kept, latch-anew}
 use Rattle.converter.proofs.Extremes.{largest-one, smallest-one, largest-more, smallest-more}
 use Rattle.converter.proofs.Shown.{always-shown, shown}
-use Rattle.converter.proofs.Made.{making-accepted, making-acceptable}
+use Rattle.converter.proofs.Made.{making-accepted, making-sound}
 use Rattle.converter.proofs.Sound.{Sound, started-sound, step-sound, good-elec, held-within}
 
 -- ---- the device beside the log
@@ -119,12 +122,12 @@ reads d l t elec temp integrity g = record {
     same-readings = ap₂ (λ (h : ℤ) (v : Values). joined (d .state .readings) h temp v) same-held same-values
 
     ok : Acceptable (l .setup .figures)
-    ok = subst (λ (s : Setup). Acceptable (s .figures)) (t .setup-is) (t .sound .acceptable)
+    ok = subst (λ (s : Setup). Acceptable (s .figures)) (t .setup-is) (t .sound .setup-ok .acceptable)
 
     within-held : (k .elec) within elecMost
     within-held =
         subst (λ (h : ℤ). h within elecMost) same-held
-        (held-within (d .setup .figures) (d .state .readings) elec (t .sound .acceptable) (t .sound .state-ok .readings-ok .held-in) (good-elec elec temp integrity g))
+        (held-within (d .setup .figures) (d .state .readings) elec (t .sound .setup-ok .acceptable) (t .sound .state-ok .readings-ok .held-in) (good-elec elec temp integrity g))
 
 reads-or-not : (d : Device) (l : Log) → Tracks d l → (elec temp : ℤ) (integrity : ℕ) (bad : Bool) → badReading elec temp integrity ≡ bad
     → Tracks (cond bad d (read d elec temp integrity)) (cond bad l (join l (keptOf l elec temp integrity)))
@@ -184,40 +187,40 @@ snap-leaves s = go (s .readings .any)
     go true = (refl, refl)
     go false = (refl, refl)
 
--- SZ as a write leaves it, where it is not one of FLAG
-abbrev zeroed : Setup → Bool → Float → Setup
-zeroed s flag x = record { figures = withZero (s .figures) (cond flag (s .figures .system .sz) (zeroSteps x)); station = s .station }
+-- what a write leaves of state and events, by whether it is one of FLAG
+flagged-state : (s : State) (held : Option ℤ) (es : List Entry) (events : List Event) → Tells (s .readings) held es → ((b : ℕ) → Latched b (s .flag) events) → (x : Float) (flag : Bool)
+    → let after : State = cond flag (record { readings = s .readings; flag = bitAnd (s .flag) (flagWhole x); snapshot = s .snapshot }) s in
+    Tells (after .readings) held es × ((b : ℕ) → Latched b (after .flag) (cond flag (log.kept (flagWhole x) ∷ events) events))
+flagged-state s held es events t l x true = (t, λ b. latch-kept b (s .flag) (flagWhole x) events (l b))
+flagged-state s held es events t l x false = (t, l)
 
-writes : (d : Device) (l : Log) → Tracks d l → (x : Float) (flag : Bool)
-    → let after : Device = record { setup = zeroed (d .setup) flag x; state = cond flag (record { readings = d .state .readings; flag = bitAnd (d .state .flag) (flagWhole x); snapshot = d .state .snapshot }) (d .state) } in
-    Sound after → Tracks after (cond flag (record { setup = l .setup; held = l .held; readings = l .readings; events = log.kept (flagWhole x) ∷ l .events })
-    (record { setup = zeroed (l .setup) flag x; held = l .held; readings = l .readings; events = l .events }))
-writes d l t x true h = record { setup-is = t .setup-is; tells = t .tells; latched = λ b. latch-kept b (d .state .flag) (flagWhole x) (l .events) (t .latched b); sound = h }
-writes d l t x false h = record { setup-is = ap (λ (s : Setup). zeroed s false x) (t .setup-is); tells = t .tells; latched = t .latched; sound = h }
+-- and an action other than RST
+acted-state : (s : State) (held : Option ℤ) (es : List Entry) (events : List Event) → Tells (s .readings) held es → ((b : ℕ) → Latched b (s .flag) events) → (snap reset : Bool) → (snap ≡ true → reset ≡ false)
+    → let after : State = cond snap (snapped s) (cond reset (peaksReset s) s) in
+    Tells (after .readings) held (cond reset (resetPeaks (latest es) es) es) × ((b : ℕ) → Latched b (after .flag) events)
+acted-state s held es events t l true reset n =
+    rw (n refl) (subst (λ (r : Readings). Tells r held es) (sym (snap-leaves s .0)) t, λ b. subst (λ (k : ℕ). Latched b k events) (sym (snap-leaves s .1)) (l b))
+acted-state s held es events t l false true n = (reset-tells s held es t (latest es) refl, λ b. subst (λ (k : ℕ). Latched b k events) (sym (peaks-flag s)) (l b))
+acted-state s held es events t l false false n = (t, l)
 
-acts : (d : Device) (l : Log) → Tracks d l → (rst snap : Bool)
-    → let after : Device = record { setup = d .setup; state = cond rst fresh (cond snap (snapped (d .state)) (peaksReset (d .state))) } in
-    Sound after → Tracks after (cond rst (begun (l .setup) (l .events)) (cond snap l (record { setup = l .setup; held = l .held; readings = resetPeaks (latest (l .readings)) (l .readings); events = l .events })))
-acts d l t true snap h = begins (d .setup) (l .setup) (l .events) (t .setup-is) h
-acts d l t false true h = record {
-  setup-is = t .setup-is;
-  tells = subst (λ (r : Readings). Tells r (l .held) (l .readings)) (sym (snap-leaves (d .state) .0)) (t .tells);
-  latched = λ b. subst (λ (n : ℕ). Latched b n (l .events)) (sym (snap-leaves (d .state) .1)) (t .latched b);
-  sound = h;
-}
-acts d l t false false h = record {
-  setup-is = t .setup-is;
-  tells = reset-tells (d .state) (l .held) (l .readings) (t .tells) (latest (l .readings)) refl;
-  latched = λ b. subst (λ (n : ℕ). Latched b n (l .events)) (sym (peaks-flag (d .state))) (t .latched b);
-  sound = h;
-}
+acts : (d : Device) (l : Log) → Tracks d l → (s s′ : Setup) → s ≡ s′ → (rst snap reset : Bool) → (snap ≡ true → reset ≡ false)
+    → let after : Device = record { setup = s; state = cond rst fresh (cond snap (snapped (d .state)) (cond reset (peaksReset (d .state)) (d .state))) } in
+    Sound after → Tracks after (cond rst (begun s′ (l .events)) (record { setup = s′; held = l .held; readings = cond reset (resetPeaks (latest (l .readings)) (l .readings)) (l .readings); events = l .events }))
+acts d l t s s′ e true snap reset n h = begins s s′ (l .events) e h
+acts d l t s s′ e false snap reset n h =
+    let p = acted-state (d .state) (l .held) (l .readings) (l .events) (t .tells) (t .latched) snap reset n in
+    record { setup-is = e; tells = p .0; latched = p .1; sound = h }
 
 obeys : (d : Device) (l : Log) → Tracks d l → (f : Frame) → Sound (obeyed d f) → Tracks (obeyed d f) (heed l f)
-unfolding zeroBy stateBy written acted
-obeys d l t (Refused n) h = t
-obeys d l t (Read r) h = t
-obeys d l t (Write r x) h = writes d l t x (eqb r 14) h
-obeys d l t (Act r) h = acts d l t (eqb r 100) (eqb r 103) h
+unfolding setupBy stateBy flagged acted
+obeys d l t (Refused n) h = record { setup-is = t .setup-is; tells = t .tells; latched = t .latched; sound = t .sound }
+obeys d l t (Read r) h = record { setup-is = t .setup-is; tells = t .tells; latched = t .latched; sound = t .sound }
+obeys d l t (Write r x) h =
+    let p = flagged-state (d .state) (l .held) (l .readings) (l .events) (t .tells) (t .latched) x (eqb r FLAG) in
+    record { setup-is = ap (λ (s : Setup). setupBy s (Write r x)) (t .setup-is); tells = p .0; latched = p .1; sound = h }
+obeys d l t (Act r) h =
+    acts d l t (setupBy (d .setup) (Act r)) (setupBy (l .setup) (Act r)) (ap (λ (s : Setup). setupBy s (Act r)) (t .setup-is)) (eqb r RST) (eqb r SNAP) (eqb r PEAKRESET)
+    (λ e. ne-eqb r PEAKRESET (λ g. omega (arith, g, eqb-true r SNAP e))) h
 
 -- ---- one call, and all of them
 
@@ -238,7 +241,7 @@ pub tracks : (sheet : List ℕ) (station : ℕ) → made sheet station .number �
 tracks sheet station h calls =
     let s : Setup = setupOf sheet station in
     subst (λ (d : Device). Tracks (run d calls) (logOf sheet station calls)) (sym (making-accepted sheet station h .starts))
-    (runs (started s) (begun s []) (begins s s [] refl (started-sound s (making-acceptable sheet station h))) calls)
+    (runs (started s) (begun s []) (begins s s [] refl (started-sound s (making-sound sheet station h))) calls)
 
 -- ---- the claim
 

@@ -8,5 +8,6 @@ pub mod History
 pub mod Reached
 pub mod Entries
 pub mod Corollaries
+pub mod Panel
 pub mod Example
 pub mod Starred

@@ -7,7 +7,8 @@ use native.Mathlib.Omega.{arith}
 use lib.Dec.{eqb}
 use borrow.Author.Tests.{eq-eqb, eqb-true}
 use Rattle.integers.proofs.Order.{is-false}
-use Rattle.figures.specs.Acceptable.{Acceptable}
+use Rattle.panel.proofs.Unused.{unused-in-range, unused-representable}
+use Rattle.converter.proofs.Sound.{SetupSound}
 use Rattle.sheet.specs.Read.{readSheet}
 use Rattle.sheet.proofs.Theorems.{read-accepted}
 use Rattle.converter.specs.Making.{stationFits, setupOf, started, refused, made}
@@ -36,5 +37,12 @@ making-accepted sheet station h = outer (stationFits station) refl h
         eight : _≡_ {A = ℕ} 8 0 → ⊥
         eight h = omega (arith, h)
 
-pub making-acceptable : (sheet : List ℕ) (station : ℕ) → made sheet station .number ≡ 0 → Acceptable (readSheet sheet .figures)
-making-acceptable sheet station h = read-accepted sheet (making-accepted sheet station h .sheet-accepted) .acceptable
+pub making-sound : (sheet : List ℕ) (station : ℕ) → made sheet station .number ≡ 0 → SetupSound (setupOf sheet station)
+making-sound sheet station h =
+    let a = read-accepted sheet (making-accepted sheet station h .sheet-accepted) in
+    record {
+      acceptable = a .acceptable;
+      representable = a .representable;
+      copy-representable = unused-representable (readSheet sheet .figures) (a .representable);
+      copy-in = unused-in-range (readSheet sheet .figures) (a .acceptable);
+    }

@@ -10,7 +10,11 @@ use lib.Signed.{ltZ}
 use Rattle.integers.specs.Within.{_within_}
 use Rattle.integers.proofs.Magnitude.{within-of, within-more}
 use Rattle.integers.proofs.Order.{pick, is-false, lt-no}
+use borrow.Author.Tests.{eqb-true}
+use lib.Ieee.{Float}
 use Rattle.figures.specs.Acceptable.{Acceptable}
+use Rattle.figures.specs.Representable.{Representable}
+use Rattle.figures.specs.Unused.{unusedZero}
 use Rattle.figures.specs.Limits.{szMost}
 use Rattle.figures.specs.declared.Calibration.{Calibration}
 use Rattle.compensation.specs.Filter.{elecMost}
@@ -18,13 +22,20 @@ use Rattle.compensation.specs.Reading.{rawSystemAt, srawAt, sysAt, sys}
 use Rattle.compensation.specs.Values.{cellValuesAt, valuesFrom, valuesAt, valuesOf}
 use Rattle.compensation.proofs.FilterHull.{filtered-within}
 use Rattle.compensation.proofs.Magnitudes.{cell-magnitudes-of, system-magnitudes-of}
-use Rattle.binary32.specs.Received.{zeroSteps}
-use Rattle.binary32.proofs.Bounded.{zero-within}
+use Rattle.binary32.proofs.Counted.{counted-within}
+use Rattle.modbus.specs.Number.{FLAG, SZ, APPLY, RST, SNAP, PEAKRESET}
+use Rattle.modbus.specs.Register.{accessOf, rangeOf}
+use Rattle.panel.specs.Figure.{isFigure, written, InRange}
+use Rattle.panel.proofs.Places.{written-in-range, written-representable}
+use Rattle.panel.proofs.Unused.{unused-in-range, unused-representable}
+use Rattle.sheet.specs.Judge.{figuresNumber}
+use Rattle.sheet.proofs.Theorems.{judged-acceptable}
 use Rattle.modbus.specs.declared.frame.Frame.{Frame}
 use Rattle.modbus.specs.declared.frame.Frame.the-variants.{Refused, Read, Write, Act}
 use Rattle.modbus.specs.Frame.{judged}
 use Rattle.state.specs.Reading.{tempMost, outside, beyond, badReading, larger, smaller, peakAfter, trofAfter, joined, heldAfter, taken, takenWith}
-use Rattle.state.specs.Request.{withZero, zeroBy, setupBy, noReadings, fresh, snapped, peaksAt, peaksReset, acted, written, stateBy}
+use Rattle.state.specs.InForce.{withZero, zeroSteps, withFigures, withCopy, offered, copyFits, applied, setupWritten, setupActed, setupBy}
+use Rattle.state.specs.Request.{noReadings, fresh, snapped, peaksAt, peaksReset, acted, flagged, stateBy}
 use Rattle.state.specs.Register.{valueMost, ReadingsWithin, StateWithin}
 use Rattle.state.specs.declared.Setup.{Setup}
 use Rattle.state.specs.declared.Readings.{Readings}
@@ -41,12 +52,24 @@ pub record StateSound (s : State) : Type 0 where
   pub readings-ok : ReadingsSound (s .readings)
   pub sysn-in : (s .snapshot .sysn) within valueMost
 
+-- figures in force that keep all limits, and a copy of which each figure is in its register's range
+pub record SetupSound (s : Setup) : Type 0 where
+  pub acceptable : Acceptable (s .figures)
+  pub representable : Representable (s .figures)
+  pub copy-representable : Representable (s .copy)
+  pub copy-in : InRange (s .copy)
+
 pub record Sound (d : Device) : Type 0 where
-  pub acceptable : Acceptable (d .setup .figures)
+  pub setup-ok : SetupSound (d .setup)
   pub state-ok : StateSound (d .state)
 
-pub state-within : {d : Device} → Sound d → StateWithin (d .state) (d .setup .figures .system .sz)
-state-within h = record { readings-in = h .state-ok .readings-ok .values-in; sysn-in = h .state-ok .sysn-in; sz-in = within-more (h .acceptable .system-ok .sz-in) (lit≤ tt) }
+pub state-within : {d : Device} → Sound d → StateWithin (d .state) (d .setup .figures .system .sz) (d .setup .copy)
+state-within h = record {
+  readings-in = h .state-ok .readings-ok .values-in;
+  sysn-in = h .state-ok .sysn-in;
+  sz-in = within-more (h .setup-ok .acceptable .system-ok .sz-in) (lit≤ tt);
+  copy-in = h .setup-ok .copy-in;
+}
 
 -- ---- a reading that 9 does not turn down
 
@@ -107,10 +130,10 @@ join-sound c r elec temp integrity ok h e t =
 read-sound : (d : Device) (elec temp : ℤ) (integrity : ℕ) → Sound d → badReading elec temp integrity ≡ false → Sound (read d elec temp integrity)
 unfolding taken takenWith
 read-sound d elec temp integrity h e = record {
-  acceptable = h .acceptable;
+  setup-ok = h .setup-ok;
   state-ok = record {
-    readings-ok = join-sound (d .setup .figures) (d .state .readings) _ temp integrity (h .acceptable) (h .state-ok .readings-ok)
-        (held-within (d .setup .figures) (d .state .readings) elec (h .acceptable) (h .state-ok .readings-ok .held-in) (good-elec elec temp integrity e)) (good-temp elec temp integrity e);
+    readings-ok = join-sound (d .setup .figures) (d .state .readings) _ temp integrity (h .setup-ok .acceptable) (h .state-ok .readings-ok)
+        (held-within (d .setup .figures) (d .state .readings) elec (h .setup-ok .acceptable) (h .state-ok .readings-ok .held-in) (good-elec elec temp integrity e)) (good-temp elec temp integrity e);
     sysn-in = h .state-ok .sysn-in;
   };
 }
@@ -133,12 +156,38 @@ zero-acceptable c z ok h = record {
   filter-ok = ok .filter-ok;
 }
 
-setup-sound : (s : Setup) (f : Frame) → Acceptable (s .figures) → Acceptable (setupBy s f .figures)
-unfolding zeroBy
+zero-within : (x : Float) → (zeroSteps x) within szMost
+unfolding rangeOf accessOf
+zero-within x = counted-within (rangeOf SZ) szMost (record { abs = lit≤ tt }) (record { abs = lit≤ tt }) x
+
+zeroed : (c : Calibration) (z : ℤ) → Representable c → Representable (withZero c z)
+zeroed c z r = record { five = r .five; seven = r .seven }
+
+-- 99: what it puts in force was judged
+applied-sound : (s : Setup) → SetupSound s → SetupSound (applied s)
+unfolding applied copyFits
+applied-sound s h =
+    let next = offered (s .figures .system .sz) (s .copy) in
+    let r : Representable next = zeroed (unusedZero (s .copy)) (s .figures .system .sz) (unused-representable (s .copy) (h .copy-representable)) in
+    pick (eqb (figuresNumber next) 0) (withFigures s next) s SetupSound
+    (λ e. record { acceptable = judged-acceptable next r .0 (eqb-true _ 0 e); representable = r; copy-representable = h .copy-representable; copy-in = h .copy-in })
+    (λ e. h)
+
+setup-sound : (s : Setup) (f : Frame) → SetupSound s → SetupSound (setupBy s f)
+unfolding setupBy setupWritten setupActed
 setup-sound s (Refused n) h = h
 setup-sound s (Read r) h = h
-setup-sound s (Write r x) h = pick (eqb r 14) (s .figures .system .sz) (zeroSteps x) (λ z. Acceptable (withZero (s .figures) z)) (λ e. h) (λ e. zero-acceptable (s .figures) (zeroSteps x) h (zero-within x))
-setup-sound s (Act r) h = h
+setup-sound s (Write r x) h =
+    pick (eqb r SZ) (withFigures s (withZero (s .figures) (zeroSteps x))) _ SetupSound
+    (λ e. record { acceptable = zero-acceptable (s .figures) (zeroSteps x) (h .acceptable) (zero-within x); representable = zeroed (s .figures) _ (h .representable); copy-representable = h .copy-representable; copy-in = h .copy-in })
+    (λ e. pick (isFigure r) (withCopy s (written (s .copy) r x)) s SetupSound
+    (λ e. record { acceptable = h .acceptable; representable = h .representable; copy-representable = written-representable (s .copy) (h .copy-representable) r x; copy-in = written-in-range (s .copy) (h .copy-representable) (h .copy-in) r x })
+    (λ e. h))
+setup-sound s (Act r) h =
+    pick (eqb r APPLY) (applied s) _ SetupSound (λ e. applied-sound s h)
+    (λ e. pick (eqb r RST) (withCopy s (unusedZero (s .figures))) s SetupSound
+    (λ e. record { acceptable = h .acceptable; representable = h .representable; copy-representable = unused-representable (s .figures) (h .representable); copy-in = unused-in-range (s .figures) (h .acceptable) })
+    (λ e. h))
 
 nought : {n : ℕ} → (pos 0) within n
 nought {n} = record { abs = zero≤ n }
@@ -177,20 +226,22 @@ reset-sound s h =
     (λ e. h)
 
 state-sound : (s : State) (f : Frame) → StateSound s → StateSound (stateBy s f)
-unfolding stateBy written acted
+unfolding stateBy flagged acted
 state-sound s (Refused n) h = h
 state-sound s (Read r) h = h
-state-sound s (Write r x) h = pick (eqb r 14) _ s StateSound (λ e. record { readings-ok = h .readings-ok; sysn-in = h .sysn-in }) (λ e. h)
-state-sound s (Act r) h = pick (eqb r 100) fresh _ StateSound (λ e. fresh-sound) (λ e. pick (eqb r 103) (snapped s) (peaksReset s) StateSound (λ e. snap-sound s h) (λ e. reset-sound s h))
+state-sound s (Write r x) h = pick (eqb r FLAG) _ s StateSound (λ e. record { readings-ok = h .readings-ok; sysn-in = h .sysn-in }) (λ e. h)
+state-sound s (Act r) h =
+    pick (eqb r RST) fresh _ StateSound (λ e. fresh-sound)
+    (λ e. pick (eqb r SNAP) (snapped s) _ StateSound (λ e. snap-sound s h) (λ e. pick (eqb r PEAKRESET) (peaksReset s) s StateSound (λ e. reset-sound s h) (λ e. h)))
 
 -- ---- a start, one call, and a list of them
 
-pub started-sound : (s : Setup) → Acceptable (s .figures) → Sound (started s)
-started-sound s h = record { acceptable = h; state-ok = fresh-sound }
+pub started-sound : (s : Setup) → SetupSound s → Sound (started s)
+started-sound s h = record { setup-ok = h; state-ok = fresh-sound }
 
 pub step-sound : (d : Device) (c : Call) → Sound d → Sound (step d c)
 step-sound d (reading elec temp integrity) h = pick (badReading elec temp integrity) d (read d elec temp integrity) Sound (λ e. h) (λ e. read-sound d elec temp integrity h e)
 step-sound d (frame bytes room) h =
     let f : Frame = judged bytes room (d .setup .station) in
-    record { acceptable = setup-sound (d .setup) f (h .acceptable); state-ok = state-sound (d .state) f (h .state-ok) }
+    record { setup-ok = setup-sound (d .setup) f (h .setup-ok); state-ok = state-sound (d .state) f (h .state-ok) }
 step-sound d report h = h

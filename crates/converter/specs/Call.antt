@@ -7,7 +7,8 @@ use Rattle.modbus.specs.Frame.{judged}
 use Rattle.modbus.specs.declared.frame.Frame.{Frame}
 use Rattle.modbus.specs.Reply.{valueReply, writeReply, exceptionReply}
 use Rattle.state.specs.Reading.{badReading, taken}
-use Rattle.state.specs.Request.{setupBy, stateBy}
+use Rattle.state.specs.InForce.{setupBy}
+use Rattle.state.specs.Request.{stateBy}
 use Rattle.state.specs.Register.{answered, numberOf}
 use Rattle.state.specs.Report.{reported}
 use Rattle.converter.specs.declared.Device.{Device}
@@ -41,7 +42,7 @@ run d (c ∷ cs) = run (step d c) cs
 -- ---- the number that a call gives, and a frame's reply
 
 unfoldable pub answerTo : Device → List ℕ → ℕ → Answer
-answerTo d bytes room = answered (d .state) (d .setup .figures .system .sz) (judged bytes room (d .setup .station))
+answerTo d bytes room = answered (d .state) (d .setup) (judged bytes room (d .setup .station))
 
 abbrev pub number : Device → Call → ℕ
 number d (reading elec temp integrity) = cond (badReading elec temp integrity) 9 0

@@ -11,6 +11,8 @@ use lib.Signed.{_≤ℤ_}
 use Rattle.compensation.specs.Stat.{Raised}
 use Rattle.compensation.specs.Faithful.{Faithful}
 use Rattle.binary32.specs.Sent.{stepFloat, wholeFloat}
+use Rattle.modbus.specs.Number.{STAT, SOUT, SYS, TEMP, SRAW, CELL, FLAG, CRAW, ELEC, SZ, SYSN, PEAK, TROF, APPLY, RST, SNAP, PEAKRESET}
+use Rattle.panel.specs.Figure.{isFigure, figureFloat}
 use Rattle.state.specs.Register.{registerAt}
 use Rattle.state.specs.Report.{reported}
 use Rattle.state.specs.declared.Readings.{Readings}
@@ -68,29 +70,32 @@ pub record Right (r : Readings) (entries : List Entry) (k : Kept) : Type 0 where
 
 -- a read of register n sends x
 abbrev pub Shows : Device → ℕ → Float → Type 0
-Shows d n x = registerAt (d .state) (d .setup .figures .system .sz) n ≡ Value x
+Shows d n x = registerAt (d .state) (d .setup .figures .system .sz) (d .setup .copy) n ≡ Value x
 
--- at all times: FLAG, the SZ in force, SYSN where one was taken (else 11), and 0.0 for RST, SNAP and peak reset
+-- at all times: FLAG, the SZ in force, SYSN where one was taken (else 11), the copy that the log keeps, and 0.0 for the actions
 pub record AlwaysShown (d : Device) (l : Log) : Type 0 where
-  pub flag : Shows d 14 (wholeFloat (d .state .flag))
-  pub sz : Shows d 22 (stepFloat (l .setup .figures .system .sz))
-  pub sysn : registerAt (d .state) (d .setup .figures .system .sz) 23 ≡ cond (d .state .snapshot .taken) (Value (stepFloat (d .state .snapshot .sysn))) (Refused 11)
-  pub rst : Shows d 100 (wholeFloat 0)
-  pub snap : Shows d 103 (wholeFloat 0)
-  pub peak-reset : Shows d 104 (wholeFloat 0)
+  pub flag : Shows d FLAG (wholeFloat (d .state .flag))
+  pub sz : Shows d SZ (stepFloat (l .setup .figures .system .sz))
+  pub sysn : registerAt (d .state) (d .setup .figures .system .sz) (d .setup .copy) SYSN ≡ cond (d .state .snapshot .taken) (Value (stepFloat (d .state .snapshot .sysn))) (Refused 11)
+  -- "Reads show that copy at all times"
+  pub copy : (n : ℕ) → isFigure n ≡ true → Shows d n (figureFloat (l .setup .copy) n)
+  pub apply : Shows d APPLY (wholeFloat 0)
+  pub rst : Shows d RST (wholeFloat 0)
+  pub snap : Shows d SNAP (wholeFloat 0)
+  pub peak-reset : Shows d PEAKRESET (wholeFloat 0)
 
 -- once a reading is kept, and k is the last one
 pub record Shown (d : Device) (k : Kept) : Type 0 where
-  pub stat : Shows d 6 (wholeFloat (valued k .stat))
-  pub sout : Shows d 9 (stepFloat (valued k .sys))
-  pub sys : Shows d 10 (stepFloat (valued k .sys))
-  pub temp : Shows d 11 (stepFloat (k .temp))
-  pub sraw : Shows d 12 (stepFloat (valued k .sraw))
-  pub cell : Shows d 13 (stepFloat (valued k .cell))
-  pub craw : Shows d 15 (stepFloat (valued k .craw))
-  pub elec : Shows d 16 (stepFloat (k .elec))
-  pub peak : Shows d 24 (stepFloat (d .state .readings .peak))
-  pub trof : Shows d 25 (stepFloat (d .state .readings .trof))
+  pub stat : Shows d STAT (wholeFloat (valued k .stat))
+  pub sout : Shows d SOUT (stepFloat (valued k .sys))
+  pub sys : Shows d SYS (stepFloat (valued k .sys))
+  pub temp : Shows d TEMP (stepFloat (k .temp))
+  pub sraw : Shows d SRAW (stepFloat (valued k .sraw))
+  pub cell : Shows d CELL (stepFloat (valued k .cell))
+  pub craw : Shows d CRAW (stepFloat (valued k .craw))
+  pub elec : Shows d ELEC (stepFloat (k .elec))
+  pub peak : Shows d PEAK (stepFloat (d .state .readings .peak))
+  pub trof : Shows d TROF (stepFloat (d .state .readings .trof))
   pub report : reported (d .state .readings) ≡ record {
     number = 0;
     report = record { sys = stepFloat (valued k .sys); peak = stepFloat (d .state .readings .peak); trof = stepFloat (d .state .readings .trof); cell = stepFloat (valued k .cell) };
@@ -99,7 +104,7 @@ pub record Shown (d : Device) (k : Kept) : Type 0 where
 -- ---- the device beside the log
 
 pub record Agrees (d : Device) (l : Log) : Type 0 where
-  -- the figures in force
+  -- the figures in force, and the waiting copy
   pub in-force : d .setup ≡ l .setup
   -- FLAG, at all times
   pub latched : (b : ℕ) → Raised b (d .state .flag) ↔ RaisedSince b (l .events)

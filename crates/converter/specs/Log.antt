@@ -11,12 +11,13 @@ use Rattle.figures.specs.declared.Calibration.{Calibration}
 use Rattle.compensation.specs.Filter.{filtered}
 use Rattle.compensation.specs.Values.{valuesOf}
 use Rattle.compensation.specs.declared.steps.Values.{Values}
-use Rattle.binary32.specs.Received.{flagWhole}
+use Rattle.modbus.specs.Number.{FLAG, RST, PEAKRESET}
 use Rattle.modbus.specs.Frame.{judged}
 use Rattle.modbus.specs.declared.frame.Frame.{Frame}
 use Rattle.modbus.specs.declared.frame.Frame.the-variants.{Refused, Read, Write, Act}
 use Rattle.state.specs.Reading.{badReading}
-use Rattle.state.specs.Request.{reboot, setupBy}
+use Rattle.state.specs.InForce.{setupBy}
+use Rattle.state.specs.Request.{reboot, flagWhole}
 use Rattle.state.specs.declared.Setup.{Setup}
 use Rattle.converter.specs.Making.{setupOf}
 use Rattle.converter.specs.Call.{Call, reading, frame, report}
@@ -74,17 +75,21 @@ abbrev pub resetPeaks : Option Kept → List Entry → List Entry
 resetPeaks none es = es
 resetPeaks (some k) es = peakReset ∷ es
 
--- "Reads, SNAP, reports and refused calls .. do nothing."; FLAG 14, SZ 22; RST 100, SNAP 103, peak reset 104
+-- "Reads, SNAP, reports and refused calls .. do nothing."; "The log of 01 keeps the copy too, by these same rules from the calls alone,
+-- and judges 17 by it as it judges 10" (Change 1): `setupBy`, over the copy and the figures that the log keeps
 abbrev pub heed : Log → Frame → Log
 heed l (Refused n) = l
 heed l (Read r) = l
-heed l (Write r x) =
-    cond (eqb r 14) (record { setup = l .setup; held = l .held; readings = l .readings; events = kept (flagWhole x) ∷ l .events })
-    (record { setup = setupBy (l .setup) (Write r x); held = l .held; readings = l .readings; events = l .events })
+heed l (Write r x) = record {
+  setup = setupBy (l .setup) (Write r x);
+  held = l .held;
+  readings = l .readings;
+  events = cond (eqb r FLAG) (kept (flagWhole x) ∷ l .events) (l .events);
+}
 heed l (Act r) =
-    cond (eqb r 100) (begun (setupBy (l .setup) (Act r)) (l .events))
-    (cond (eqb r 103) l
-    (record { setup = l .setup; held = l .held; readings = resetPeaks (latest (l .readings)) (l .readings); events = l .events }))
+    let setup = setupBy (l .setup) (Act r) in
+    cond (eqb r RST) (begun setup (l .events))
+    (record { setup = setup; held = l .held; readings = cond (eqb r PEAKRESET) (resetPeaks (latest (l .readings)) (l .readings)) (l .readings); events = l .events })
 
 abbrev pub note : Log → Call → Log
 note l (reading elec temp integrity) = cond (badReading elec temp integrity) l (join l (keptOf l elec temp integrity))

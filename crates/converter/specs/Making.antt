@@ -3,6 +3,7 @@ use mathlib.Core.Bool.{Bool, cond, _&&_}
 use mathlib.Core.List.{List}
 use Prim.Native.Nat.{ℕ}
 use lib.Dec.{eqb, leb}
+use Rattle.figures.specs.Unused.{unusedZero}
 use Rattle.sheet.specs.Read.{noFigures, readSheet}
 use Rattle.state.specs.Request.{noReadings, noSnapshot, fresh}
 use Rattle.state.specs.declared.Setup.{Setup}
@@ -13,16 +14,16 @@ use Rattle.converter.specs.declared.Outcome.{Outcome}
 unfoldable pub stationFits : ℕ → Bool
 stationFits station = leb 1 station && leb station 247
 
--- the figures in force at the start: the sheet's
+-- the figures in force at the start: the sheet's; "a waiting copy, which starts as the figures in force with 0 in unused points"
 abbrev pub setupOf : List ℕ → ℕ → Setup
-setupOf sheet station = record { figures = readSheet sheet .figures; station = station }
+setupOf sheet station = record { figures = readSheet sheet .figures; copy = unusedZero (readSheet sheet .figures); station = station }
 
 abbrev pub started : Setup → Device
 started setup = record { setup = setup; state = fresh }
 
 -- "a refused making gives a record of zeros, which is no device"
 abbrev pub noDevice : Device
-noDevice = record { setup = record { figures = noFigures; station = 0 }; state = record { readings = noReadings; flag = 0; snapshot = noSnapshot } }
+noDevice = record { setup = record { figures = noFigures; copy = noFigures; station = 0 }; state = record { readings = noReadings; flag = 0; snapshot = noSnapshot } }
 
 abbrev pub refused : ℕ → Outcome
 refused number = record { number = number; device = noDevice }

@@ -18,7 +18,9 @@ use Rattle.compensation.specs.Filter.{filtered}
 use Rattle.compensation.specs.Reading.{rawCell, craw}
 use Rattle.compensation.specs.Stat.{bitAt, stat, crawor}
 use Rattle.binary32.specs.Sent.{stepFloat}
-use Rattle.binary32.specs.Received.{zeroFits, zeroSteps}
+use Rattle.binary32.specs.Received.{takes, counted}
+use Rattle.modbus.specs.Number.{SZ}
+use Rattle.modbus.specs.Register.{rangeOf}
 
 -- ---- what the cases are about
 
@@ -85,7 +87,7 @@ worked (filteredBy fflv _) = filteredBy fflv (filtered (fourSteps fflv) false (p
 worked (goesOut steps _) = goesOut steps (toBits binary32 (stepFloat steps))
 worked (judged clk _) = judged clk (sheetNumber (sheetBytes (apart clk)))
 worked (becomes pattern _ _ _) =
-    becomes pattern (ofBits binary32 pattern) (zeroFits (ofBits binary32 pattern)) (zeroSteps (ofBits binary32 pattern))
+    becomes pattern (ofBits binary32 pattern) (takes (rangeOf SZ) (ofBits binary32 pattern)) (counted (rangeOf SZ) (ofBits binary32 pattern))
 
 -- ---- the table, in the paper's order
 

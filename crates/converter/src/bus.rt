@@ -2,12 +2,14 @@
 ghost use mathlib.Core.Path.{_≡_};
 ghost use lib.ListN.{length};
 ghost use Rattle.modbus.specs.Reply.{Replied};
-ghost use Rattle.state.specs.Register.{answered, numberOf, refusalOf};
+ghost use Rattle.state.specs.Register.{answered, numberOf};
+ghost use Rattle.state.specs.Parts.{refusalOf};
 ghost use Rattle.state.specs.declared.registers.Answer.the-variants.{Done, Refused};
 ghost use Rattle.converter.specs.Call.{replyWith};
 ghost use Rattle.converter.specs.Reached.{Parts, Answering};
 use modbus::frame::Frame;
 use state::Answer;
+use state::Setup;
 use state::State;
 
 // The number, 0 where the frame was obeyed, and the length replied, 0 for none.
@@ -39,11 +41,17 @@ fn reply_with(frame: &[u8], reply: &mut [u8], answer: Answer) -> usize
 }
 
 // What a judged frame asks is answered, and the reply to its bytes written.
-pub fn answer(state: State, sz: i64, request: Frame, frame: &[u8], reply: &mut [u8]) -> Answered
-    requires { ⌜ Parts state sz ⌝ }
-    ensures { λ r. ⌜ Answering (answered state sz request) (now (frame .entry)) (now (reply .entry)) (now (reply .exit)) r ⌝ }
+pub fn answer(
+    state: State,
+    setup: Setup,
+    request: Frame,
+    frame: &[u8],
+    reply: &mut [u8],
+) -> Answered
+    requires { ⌜ Parts state setup ⌝ }
+    ensures { λ r. ⌜ Answering (answered state setup request) (now (frame .entry)) (now (reply .entry)) (now (reply .exit)) r ⌝ }
 {
-    let answer = state::answer_to(state, sz, request);
+    let answer = state::answer_to(state, setup, request);
     let length = reply_with(frame, reply, answer);
     let number = number_in(answer);
     Answered { number, length }

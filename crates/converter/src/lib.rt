@@ -49,7 +49,11 @@ impl Device {
             return making::refused(read.number);
         }
         let figures = read.figures;
-        let setup = Setup { figures, station };
+        let setup = Setup {
+            figures,
+            copy: figures,
+            station,
+        };
         let state = state::fresh();
         let device = Device { setup, state };
         Outcome { number: 0, device }
@@ -95,16 +99,14 @@ impl Device {
         state::report_of(state.readings)
     }
 
-    // A bus frame, and a buffer for the reply, of which the bytes past the reply stay as they are: 12 to 16, then 10 or 11.
+    // A bus frame, and a buffer for the reply, of which the bytes past the reply stay as they are: 12 to 16, then 10, 11 or 17.
     pub fn frame(self, frame: &[u8], reply: &mut [u8]) -> Served
         requires { ⌜ Reached self ⌝ }
         ensures { λ r. ⌜ Serving self (now (frame .entry)) (now (reply .entry)) (now (reply .exit)) r ⌝ }
     {
         let before = self.setup;
-        let figures = before.figures;
-        let system = figures.system;
         let request = modbus::frame::judge(frame, reply.len(), before.station);
-        let answered = bus::answer(self.state, system.sz, request, frame, reply);
+        let answered = bus::answer(self.state, before, request, frame, reply);
         let setup = state::setup_after(before, request);
         let state = state::state_after(self.state, request);
         let device = Device { setup, state };

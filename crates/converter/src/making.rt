@@ -20,6 +20,7 @@ fn no_device() -> Device
 {
     let setup = Setup {
         figures: sheet::no_figures(),
+        copy: sheet::no_figures(),
         station: 0,
     };
     let mut state = state::fresh();

@@ -6,8 +6,9 @@ use Prim.Native.Nat.{ℕ}
 use denote.Ref.{now}
 use lib.Dec.{eqb}
 use borrow.Author.Needs.{needs}
-use borrow.Author.Tests.{eq-eqb, ne-eqb, not-true, not-false}
+use borrow.Author.Tests.{eq-eqb, eqb-true, ne-eqb, not-true, not-false}
 use Rattle.sheet.specs.Read.{readSheet}
+use Rattle.sheet.proofs.Theorems.{read-accepted}
 use Rattle.sheet.specs.declared.Sheet.{Sheet}
 use Rattle.state.specs.Request.{fresh}
 use Rattle.state.specs.declared.State.{State}
@@ -30,9 +31,9 @@ unfolding made
 wrong-sheet sheet station f s n e = rw (f, rw s at n) (rw s at e)
 
 starts : (sheet : List ℕ) (station : ℕ) {s : Sheet} {t : State} → stationFits station ≡ true → s ≡ readSheet sheet → eqb (s .number) 0 ≡ true → t ≡ fresh
-    → record { number = 0; device = record { setup = record { figures = s .figures; station = station }; state = t } } ≡ made sheet station
+    → record { number = 0; device = record { setup = record { figures = s .figures; copy = s .figures; station = station }; state = t } } ≡ made sheet station
 unfolding made
-starts sheet station f s n t = rw (f, rw s at n, s, t)
+starts sheet station {s} f e n t = rw (f, rw e at n, e, t, read-accepted sheet (eqb-true _ 0 (rw e at n)) .unused)
 
 returns : tie.Need-returns
 returns c =

@@ -2,15 +2,14 @@
 use mathlib.Core.Path.{_≡_, ap, _∙_}
 use mathlib.Core.List.{List}
 use Prim.Native.Nat.{ℕ}
-use lib.IntN.{ℤ}
 use lib.ListN.{length}
 use denote.Ref.{now}
 use borrow.Author.Needs.{needs}
 use Rattle.modbus.specs.Reply.{Replied}
 use Rattle.state.specs.Register.{numberOf, StateWithin}
+use Rattle.state.specs.declared.Setup.{Setup}
 use Rattle.state.specs.declared.State.{State}
 use Rattle.state.specs.declared.registers.Answer.{Answer}
-use Rattle.state.proofs.Within.{kept}
 use Rattle.converter.specs.Call.{replyWith}
 use Rattle.converter.specs.Reached.{Parts, Answering}
 use Rattle.converter.proofs.Sound.{state-within}
@@ -21,18 +20,18 @@ use Rattle.converter.proofs.bus.answer.Tie as tie
 answers : {a b : Answer} (bytes before after : List ℕ) {n m : ℕ} → a ≡ b → Replied (replyWith bytes (length before) a) before after m → n ≡ numberOf a → Answering b bytes before after (record { number = n; length = m })
 answers bytes before after e h k = record { number-is = k ∙ ap numberOf e; replied = rw e at h }
 
-within : {s : State} {sz : ℤ} → Parts s sz → StateWithin s sz
-within h = rw (← h .state-is, ← h .sz-is) (state-within (reached-sound (h .reached)))
+within : {s : State} {t : Setup} → Parts s t → StateWithin s (t .figures .system .sz) (t .copy)
+within h = rw (← h .state-is, ← h .setup-is) (state-within (reached-sound (h .reached)))
 
 answer-to-requires : tie.Need-answer-to-requires
-answer-to-requires c κs = let h = within (c .before .before .pre) in rw (kept (h .sz-in)) h
+answer-to-requires c κs = within (c .before .before .pre)
 
 returns : tie.Need-returns
 returns c =
     let b = c .before .before .before in
     let a = b .before .before in
     let s = a .before .before .before in
-    answers (now (s .args .frame)) (now (s .args .reply)) _ (rw (kept (within (s .pre) .sz-in)) at (a .answer-to .ensures)) (b .reply-with .ensures) (c .number-in .ensures)
+    answers (now (s .args .frame)) (now (s .args .reply)) _ (a .answer-to .ensures) (b .reply-with .ensures) (c .number-in .ensures)
 
 pub answer-spec : {M : Type 1} → statement M
 answer-spec = tie.close (tie.spec answer-to-requires (λ c κs. search needs) (λ c κs. search needs) (λ c. search needs) returns)

@@ -9,12 +9,12 @@ use Rattle.converter.specs.Making.{noDevice}
 use Rattle.converter.proofs.making.no_device.Statement.{statement}
 use Rattle.converter.proofs.making.no_device.Tie as tie
 
-built : {f : Calibration} {s : State} → f ≡ noFigures → s ≡ fresh → record { setup = record { figures = f; station = 0 }; state = record { readings = s .readings; flag = 0; snapshot = s .snapshot } } ≡ noDevice
+built : {f g : Calibration} {s : State} → f ≡ noFigures → g ≡ noFigures → s ≡ fresh → record { setup = record { figures = f; copy = g; station = 0 }; state = record { readings = s .readings; flag = 0; snapshot = s .snapshot } } ≡ noDevice
 unfolding fresh
-built e h = rw (e, h)
+built e g h = rw (e, g, h)
 
 returns : tie.Need-returns
-returns c = built (c .before .no-figures .ensures) (c .fresh .ensures)
+returns c = built (c .before .before .no-figures .ensures) (c .before .no-figures2 .ensures) (c .fresh .ensures)
 
 pub no-device-spec : {M : Type 1} → statement M
-no-device-spec = tie.close (tie.spec (λ c κs. search needs) (λ c κs. search needs) returns)
+no-device-spec = tie.close (tie.spec (λ c κs. search needs) (λ c κs. search needs) (λ c κs. search needs) returns)
