@@ -16,6 +16,8 @@ use Rattle.figures.proofs.System as Y
 use Rattle.figures.proofs.System.Laws as Y′
 use Rattle.figures.proofs.Filter as I
 use Rattle.figures.proofs.Filter.Laws as I′
+use Rattle.figures.proofs.Calibration as F
+use Rattle.figures.proofs.Calibration.Laws as F′
 use Rattle.compensation.proofs.steps.Input as P
 use Rattle.compensation.proofs.steps.Input.Laws as P′
 use Rattle.compensation.proofs.steps.CellValues as K
@@ -69,6 +71,27 @@ use Rattle.state.proofs.take.Met as take-thm
 use Rattle.converter.proofs.Device.report as report-of
 use Rattle.converter.proofs.Device.report.Symbol as report-def
 use Rattle.converter.proofs.Device.report.Met as report-thm
+use Rattle.panel.proofs.unused_zero as unused-zero-of
+use Rattle.panel.proofs.unused_zero.Symbol as unused-zero-def
+use Rattle.panel.proofs.unused_zero.Met as unused-zero-thm
+use Rattle.state.proofs.applies as applies-of
+use Rattle.state.proofs.applies.Symbol as applies-def
+use Rattle.state.proofs.applies.Met as applies-thm
+use Rattle.state.proofs.restarts as restarts-of
+use Rattle.state.proofs.restarts.Symbol as restarts-def
+use Rattle.state.proofs.restarts.Met as restarts-thm
+use Rattle.state.proofs.copy_after as copy-after-of
+use Rattle.state.proofs.copy_after.Symbol as copy-after-def
+use Rattle.state.proofs.copy_after.Met as copy-after-thm
+use Rattle.state.proofs.offer as offer-of
+use Rattle.state.proofs.offer.Symbol as offer-def
+use Rattle.state.proofs.offer.Met as offer-thm
+use Rattle.state.proofs.is_accepted as is-accepted-of
+use Rattle.state.proofs.is_accepted.Symbol as is-accepted-def
+use Rattle.state.proofs.is_accepted.Met as is-accepted-thm
+use Rattle.state.proofs.fresh as fresh-of
+use Rattle.state.proofs.fresh.Symbol as fresh-def
+use Rattle.state.proofs.fresh.Met as fresh-thm
 use Rattle.board.proofs.Call.{Plain}
 
 abbrev pub changes-state : Plain
@@ -147,4 +170,46 @@ abbrev pub report : Plain
 report = record {
   callee = record { name = report-def.name; routine = report-def.routine; ended = report-of.ended; clauses = report-of.clauses; met = report-thm.met; result = B′.mir; typed = λ 𝓤 H A W κs r v is. LL.lawful B.the-type B′.the-laws 𝓤 H A W .typed r _ is .0 };
   makes = λ 𝓤 H A W κs. (LL.makes D.the-type D′.the-plain 𝓤 H A, tt);
+}
+
+abbrev pub applies : Plain
+applies = record {
+  callee = record { name = applies-def.name; routine = applies-def.routine; ended = applies-of.ended; clauses = applies-of.clauses; met = applies-thm.met; result = tyBool; typed = λ 𝓤 H A W κs r v is. bool-lawful 𝓤 H A W .typed r _ is .0 };
+  makes = λ 𝓤 H A W κs. (EL.makes R.the-type R′.the-plain 𝓤 H A, tt);
+}
+
+abbrev pub restarts : Plain
+restarts = record {
+  callee = record { name = restarts-def.name; routine = restarts-def.routine; ended = restarts-of.ended; clauses = restarts-of.clauses; met = restarts-thm.met; result = tyBool; typed = λ 𝓤 H A W κs r v is. bool-lawful 𝓤 H A W .typed r _ is .0 };
+  makes = λ 𝓤 H A W κs. (EL.makes R.the-type R′.the-plain 𝓤 H A, tt);
+}
+
+abbrev pub copy-after : Plain
+copy-after = record {
+  callee = record { name = copy-after-def.name; routine = copy-after-def.routine; ended = copy-after-of.ended; clauses = copy-after-of.clauses; met = copy-after-thm.met; result = F′.mir; typed = λ 𝓤 H A W κs r v is. LL.lawful F.the-type F′.the-laws 𝓤 H A W .typed r _ is .0 };
+  makes = λ 𝓤 H A W κs. (LL.makes F.the-type F′.the-plain 𝓤 H A, (EL.makes R.the-type R′.the-plain 𝓤 H A, tt));
+}
+
+abbrev pub unused-zero : Plain
+unused-zero = record {
+  callee = record { name = unused-zero-def.name; routine = unused-zero-def.routine; ended = unused-zero-of.ended; clauses = unused-zero-of.clauses; met = unused-zero-thm.met; result = F′.mir; typed = λ 𝓤 H A W κs r v is. LL.lawful F.the-type F′.the-laws 𝓤 H A W .typed r _ is .0 };
+  makes = λ 𝓤 H A W κs. (LL.makes F.the-type F′.the-plain 𝓤 H A, tt);
+}
+
+abbrev pub fresh : Plain
+fresh = record {
+  callee = record { name = fresh-def.name; routine = fresh-def.routine; ended = fresh-of.ended; clauses = fresh-of.clauses; met = fresh-thm.met; result = S′.mir; typed = λ 𝓤 H A W κs r v is. LL.lawful S.the-type S′.the-laws 𝓤 H A W .typed r _ is .0 };
+  makes = λ 𝓤 H A W κs. tt;
+}
+
+abbrev pub offer : Plain
+offer = record {
+  callee = record { name = offer-def.name; routine = offer-def.routine; ended = offer-of.ended; clauses = offer-of.clauses; met = offer-thm.met; result = F′.mir; typed = λ 𝓤 H A W κs r v is. LL.lawful F.the-type F′.the-laws 𝓤 H A W .typed r _ is .0 };
+  makes = λ 𝓤 H A W κs. (sint-makes 𝓤 H A W w64, (LL.makes F.the-type F′.the-plain 𝓤 H A, tt));
+}
+
+abbrev pub is-accepted : Plain
+is-accepted = record {
+  callee = record { name = is-accepted-def.name; routine = is-accepted-def.routine; ended = is-accepted-of.ended; clauses = is-accepted-of.clauses; met = is-accepted-thm.met; result = tyBool; typed = λ 𝓤 H A W κs r v is. bool-lawful 𝓤 H A W .typed r _ is .0 };
+  makes = λ 𝓤 H A W κs. (LL.makes F.the-type F′.the-plain 𝓤 H A, tt);
 }

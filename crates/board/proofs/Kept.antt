@@ -41,7 +41,8 @@ use Rattle.state.proofs.Snapshot as N
 use Rattle.state.proofs.Snapshot.Laws as N′
 use Rattle.state.proofs.Setup as U
 use Rattle.state.proofs.Setup.Laws as U′
-use Rattle.state.specs.Request.{withZero}
+use Rattle.state.specs.InForce.{withZero, withFigures, withCopy}
+use Rattle.state.specs.declared.Setup.{Setup}
 use Rattle.state.specs.declared.State.{State}
 use Rattle.state.proofs.State as S
 use Rattle.state.proofs.State.Laws as S′
@@ -54,6 +55,9 @@ mach d = LL.val D.the-type D′.the-laws d
 
 unfoldable pub mach-figures : Calibration → Val
 mach-figures c = LL.val F.the-type F′.the-laws c
+
+unfoldable pub mach-setup : Setup → Val
+mach-setup u = LL.val U.the-type U′.the-laws u
 
 unfoldable pub mach-state : State → Val
 mach-state s = LL.val S.the-type S′.the-laws s
@@ -72,9 +76,16 @@ pub state-tells : Tells S.the-row (Is S.the-row) (λ s. mach-state s ∷ [])
 unfolding mach-state
 state-tells = LL.tells S.the-type S′.the-laws
 
--- a state's machine value is the one named
+pub figures-tell : Tells F.the-row (Is F.the-row) (λ c. mach-figures c ∷ [])
+unfolding mach-figures
+figures-tell = LL.tells F.the-type F′.the-laws
+
+-- a state's machine value, and that of figures, is the one named
 pub known : (s : State) (v : Val) → Is S.the-row s (v ∷ []) → IsState s
 known s v is = subst (Is S.the-row s) (state-tells s _ is) is
+
+known-figures : (c : Calibration) (v : Val) → Is F.the-row c (v ∷ []) → Is F.the-row c (mach-figures c ∷ [])
+known-figures c v is = subst (Is F.the-row c) (figures-tell c _ is) is
 
 module _ {M : Type 1} (𝓤 : URA M) (H : Heap 𝓤) (A : Atoms 𝓤) (W : Given 𝓤 H A) where
   pub typed : (d : Device) → IsDevice d → Holds (hasTy D′.mir (mach d)) × WT (mach d)
@@ -136,25 +147,41 @@ pub figures-are : (c : Calibration) (z : ℤ) → mach-figures (withZero c z) �
 unfolding mach-figures mach-cell mach-temperature mach-linearity mach-filter
 figures-are c z = refl
 
--- ---- a device by its parts: figures, station, state
+-- ---- a device by its parts: figures, copy, station, state
 
-abbrev pub parts : Val → ℕ → Val → Vals
-parts f n s = vcons (vstruct (vcons f (vcons (vint w8 n) vnil))) (vcons s vnil)
+abbrev pub parts : Val → Val → ℕ → Val → Vals
+parts f c n s = vcons (vstruct (vcons f (vcons c (vcons (vint w8 n) vnil)))) (vcons s vnil)
 
-pub mach-is : (d : Device) → mach d ≡ vstruct (parts (mach-figures (d .setup .figures)) (d .setup .station) (mach-state (d .state)))
+-- with other figures, another copy or another state
+abbrev pub around : Device → Val → Val → Val → Val
+around d f c s = vstruct (parts f c (d .setup .station) s)
+
+pub mach-is : (d : Device) → mach d ≡ around d (mach-figures (d .setup .figures)) (mach-figures (d .setup .copy)) (mach-state (d .state))
 unfolding mach mach-figures mach-state
 mach-is d = refl
 
+pub mach-setup-is : (d : Device) → mach d ≡ vstruct (vcons (mach-setup (d .setup)) (vcons (mach-state (d .state)) vnil))
+unfolding mach mach-setup mach-state
+mach-setup-is d = refl
+
 -- with the figures' parts in sight
-pub mach-five : (d : Device) → mach d ≡ vstruct (parts (vstruct (five (d .setup .figures))) (d .setup .station) (mach-state (d .state)))
-mach-five d = mach-is d ∙ ap (λ (f : Val). vstruct (parts f (d .setup .station) (mach-state (d .state)))) (five-are (d .setup .figures))
+pub mach-five : (d : Device) → mach d ≡ around d (vstruct (five (d .setup .figures))) (mach-figures (d .setup .copy)) (mach-state (d .state))
+mach-five d = mach-is d ∙ ap (λ (f : Val). around d f (mach-figures (d .setup .copy)) (mach-state (d .state))) (five-are (d .setup .figures))
+
+-- with other figures in force
+abbrev pub refigure : Device → Calibration → Device
+refigure d c = record { setup = withFigures (d .setup) c; state = d .state }
 
 -- with another SZ
 abbrev pub rezero : Device → ℤ → Device
-rezero d z = record { setup = record { figures = withZero (d .setup .figures) z; station = d .setup .station }; state = d .state }
+rezero d z = refigure d (withZero (d .setup .figures) z)
 
-pub rezero-is : (d : Device) (z : ℤ) → mach (rezero d z) ≡ vstruct (parts (zeroed (d .setup .figures) (number z)) (d .setup .station) (mach-state (d .state)))
-rezero-is d z = mach-is (rezero d z) ∙ ap (λ (f : Val). vstruct (parts f (d .setup .station) (mach-state (d .state)))) (figures-are (d .setup .figures) z)
+pub rezero-is : (d : Device) (z : ℤ) → mach (rezero d z) ≡ around d (zeroed (d .setup .figures) (number z)) (mach-figures (d .setup .copy)) (mach-state (d .state))
+rezero-is d z = mach-is (rezero d z) ∙ ap (λ (f : Val). around d f (mach-figures (d .setup .copy)) (mach-state (d .state))) (figures-are (d .setup .figures) z)
+
+-- with another copy
+abbrev pub recopy : Device → Calibration → Device
+recopy d c = record { setup = withCopy (d .setup) c; state = d .state }
 
 -- with another state
 abbrev pub restate : Device → State → Device
@@ -164,6 +191,18 @@ module _ (d : Device) (is : IsDevice d) where
   pub state-is : IsState (d .state)
   unfolding mach mach-state
   state-is = LL.owed D.the-type D′.the-laws d _ is .1 .0
+
+  pub setup-is : Is U.the-row (d .setup) (mach-setup (d .setup) ∷ [])
+  unfolding mach mach-setup
+  setup-is = LL.owed D.the-type D′.the-laws d _ is .0
+
+  pub figures-is : Is F.the-row (d .setup .figures) (mach-figures (d .setup .figures) ∷ [])
+  unfolding mach mach-figures
+  figures-is = LL.owed U.the-type U′.the-laws (d .setup) _ (LL.owed D.the-type D′.the-laws d _ is .0) .0
+
+  pub copy-is : Is F.the-row (d .setup .copy) (mach-figures (d .setup .copy) ∷ [])
+  unfolding mach mach-figures
+  copy-is = LL.owed U.the-type U′.the-laws (d .setup) _ (LL.owed D.the-type D′.the-laws d _ is .0) .1 .0
 
   pub five-is : Is C.the-row (d .setup .figures .cell) (mach-cell (d .setup .figures .cell) ∷ []) ×
       (Is T.the-row (d .setup .figures .temperature) (mach-temperature (d .setup .figures .temperature) ∷ []) ×
@@ -181,7 +220,7 @@ module _ (d : Device) (is : IsDevice d) where
 
   pub station-fits : d .setup .station < 2 ^ 8
   unfolding mach
-  station-fits = LL.owed U.the-type U′.the-laws (d .setup) _ (LL.owed D.the-type D′.the-laws d _ is .0) .1 .0 .1
+  station-fits = LL.owed U.the-type U′.the-laws (d .setup) _ (LL.owed D.the-type D′.the-laws d _ is .0) .1 .1 .0 .1
 
   system-is : Is Y.the-row (d .setup .figures .system) (LL.vals Y.the-type Y′.the-laws (d .setup .figures .system))
   unfolding mach
@@ -190,14 +229,20 @@ module _ (d : Device) (is : IsDevice d) where
   pub sz-is : Is i64 (d .setup .figures .system .sz) (number (d .setup .figures .system .sz) ∷ [])
   sz-is = LL.owed Y.the-type Y′.the-laws (d .setup .figures .system) _ system-is .1 .1 .1 .1 .0
 
+  -- the device with other figures in force, or another copy
+  module _ (c : Calibration) {v : Val} (c-is : Is F.the-row c (v ∷ [])) where
+    pub refigured : IsDevice (refigure d c)
+    unfolding mach mach-figures
+    refigured = LL.owes D.the-type D′.the-laws (refigure d c) (LL.owes U.the-type U′.the-laws (withFigures (d .setup) c) (known-figures c v c-is, (copy-is, ((refl, station-fits), tt))), (LL.owed D.the-type D′.the-laws d _ is .1 .0, tt))
+
+    pub recopied : IsDevice (recopy d c)
+    unfolding mach mach-figures
+    recopied = LL.owes D.the-type D′.the-laws (recopy d c) (LL.owes U.the-type U′.the-laws (withCopy (d .setup) c) (figures-is, (known-figures c v c-is, ((refl, station-fits), tt))), (LL.owed D.the-type D′.the-laws d _ is .1 .0, tt))
+
   pub rezeroed : (z : ℤ) {v : Val} → Is i64 z (v ∷ []) → IsDevice (rezero d z)
-  unfolding mach
+  unfolding mach-figures
   rezeroed z z-is =
-      let o = LL.owed F.the-type F′.the-laws (d .setup .figures) _ (LL.owed U.the-type U′.the-laws (d .setup) _ (LL.owed D.the-type D′.the-laws d _ is .0) .0) in
+      let o = LL.owed F.the-type F′.the-laws (d .setup .figures) _ figures-is in
       let m = LL.owed Y.the-type Y′.the-laws (d .setup .figures .system) _ system-is in
       let y = LL.owes Y.the-type Y′.the-laws (withZero (d .setup .figures) z .system) (m .0, (m .1 .0, (m .1 .1 .0, (m .1 .1 .1 .0, (subst (Is i64 z) (sint-tells w64 z _ z-is) z-is, tt))))) in
-      LL.owes D.the-type D′.the-laws (rezero d z) (
-        LL.owes U.the-type U′.the-laws (record { figures = withZero (d .setup .figures) z; station = d .setup .station })
-            (LL.owes F.the-type F′.the-laws (withZero (d .setup .figures) z) (o .0, (o .1 .0, (o .1 .1 .0, (y, (o .1 .1 .1 .1 .0, tt))))), ((refl, station-fits), tt)),
-        (LL.owed D.the-type D′.the-laws d _ is .1 .0, tt),
-      )
+      refigured (withZero (d .setup .figures) z) (LL.owes F.the-type F′.the-laws (withZero (d .setup .figures) z) (o .0, (o .1 .0, (o .1 .1 .0, (y, (o .1 .1 .1 .1 .0, tt))))))

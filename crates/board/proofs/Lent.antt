@@ -7,6 +7,8 @@ use Rattle.modbus.proofs.frame.Frame.Laws as R′
 use Rattle.modbus.proofs.frame.judge as judge-of
 use Rattle.modbus.proofs.frame.judge.Symbol as judge-def
 use Rattle.modbus.proofs.frame.judge.Met as judge-thm
+use Rattle.state.proofs.Setup as U
+use Rattle.state.proofs.Setup.Laws as U′
 use Rattle.state.proofs.State as S
 use Rattle.state.proofs.State.Laws as S′
 use Rattle.converter.specs.Reached.{Reached}
@@ -23,10 +25,11 @@ use Rattle.converter.proofs.answer.Met as answer-thm
 use Rattle.converter.proofs.refuse as refuse-of
 use Rattle.converter.proofs.refuse.Symbol as refuse-def
 use Rattle.converter.proofs.refuse.Met as refuse-thm
-use Rattle.board.proofs.Walk.{refl, sym, ap, subst, ℕ, _<_, _^_, [], _∷_, List, length, URA, named, w8, w64, Val, vint, vptr, SProp, ent, GName, Lft, Share, ftrue, flft, fobs, fbor, Memory, Routine, Heap, Atoms, Fun, Given, Item, ‵, _⊛_, ⋆, _$_, _∵_, !, qed, move, drop, split, join}
-use Rattle.board.proofs.Walk.{fjoin, fjoin3, feqI, frame, done, Body, Is, mem, uint-makes, sint-makes, u8, usize, i64, RefT, sliceVal, MutSlice, ShrSlice, owned, nothing, Bound, says, only, tyUnit, T, hasTy, WT}
-use Rattle.board.proofs.Kept.{mach-state, IsDevice, number, state-is, sz-is}
+use Rattle.board.proofs.Walk.{refl, ℕ, _<_, _^_, [], _∷_, List, length, URA, named, w8, w64, Val, vint, vptr, SProp, ent, GName, Lft, Share, ftrue, flft, Memory, Routine, Heap, Atoms, Fun, Given, Item, ‵, _⊛_, ⋆, _$_, _∵_, !, qed, move, drop, split, join}
+use Rattle.board.proofs.Walk.{fjoin, fjoin3, feqI, frame, done, Is, uint-makes, u8, usize, RefT, sliceVal, MutSlice, ShrSlice, owned, nothing, Bound, says, tyBool, bool-lawful}
+use Rattle.board.proofs.Kept.{mach-setup, mach-state, IsDevice, setup-is, state-is}
 use Rattle.board.proofs.Call.{Callee, triple}
+use Rattle.board.proofs.Handed.{lent-record}
 use Rattle.board.proofs.obey as obey-of
 use Rattle.board.proofs.obey.Symbol as obey-def
 use Rattle.board.proofs.obey.Met as obey-thm
@@ -44,7 +47,7 @@ abbrev pub refuse : Callee
 refuse = record { name = refuse-def.name; routine = refuse-def.routine; ended = refuse-of.ended; clauses = refuse-of.clauses; met = refuse-thm.met; result = B′.mir; typed = λ 𝓤 H A W κs r v is. LL.lawful B.the-type B′.the-laws 𝓤 H A W .typed r _ is .0 }
 
 abbrev pub obey : Callee
-obey = record { name = obey-def.name; routine = obey-def.routine; ended = obey-of.ended; clauses = obey-of.clauses; met = obey-thm.met; result = tyUnit; typed = λ 𝓤 H A W κs r v is. subst (λ (u : Val). T (hasTy tyUnit u) × WT u) (sym (ap only is)) (tt, tt) }
+obey = record { name = obey-def.name; routine = obey-def.routine; ended = obey-of.ended; clauses = obey-of.clauses; met = obey-thm.met; result = tyBool; typed = λ 𝓤 H A W κs r v is. bool-lawful 𝓤 H A W .typed r _ is .0 }
 
 -- the machine value of a slice of bytes
 abbrev pub slice : RefT (List ℕ) → Val
@@ -67,7 +70,7 @@ module _ {M : Type 1} (𝓤 : URA M) (H : Heap 𝓤) (A : Atoms 𝓤) (W : Given
 module _ {M : Type 1} (𝓤 : URA M) (H : Heap 𝓤) (A : Atoms 𝓤) (κ₁ κ₂ : Lft) (q₁ q₂ : Share) (xf xr : RefT (List ℕ)) (h : Device) (a : Frame) (va : Val) where
   abbrev pub to-answer : Bound 𝓤 H A (answer .ended .signature)
   to-answer =
-      ((κ₁, (κ₂, tt)), (q₁, (q₂, tt)), tt, (h .state, (h .setup .figures .system .sz, (a, (xf, (xr, tt))))), (mach-state (h .state) ∷ [], (number (h .setup .figures .system .sz) ∷ [], (va ∷ [], (slice xf ∷ [], (slice xr ∷ [], tt))))))
+      ((κ₁, (κ₂, tt)), (q₁, (q₂, tt)), tt, (h .state, (h .setup, (a, (xf, (xr, tt))))), (mach-state (h .state) ∷ [], (mach-setup (h .setup) ∷ [], (va ∷ [], (slice xf ∷ [], (slice xr ∷ [], tt))))))
 
 -- the frame and the reply, lent for their lifetimes
 abbrev lent : {M : Type 1} (𝓤 : URA M) (H : Heap 𝓤) (A : Atoms 𝓤) (W : Given 𝓤 H A) (κ₁ κ₂ : Lft) (q₁ q₂ : Share) (xf xr : RefT (List ℕ)) → List (Item 𝓤)
@@ -77,8 +80,8 @@ module _ {M : Type 1} (𝓤 : URA M) (H : Heap 𝓤) (A : Atoms 𝓤) (W : Given
   pub answer-asks : Reached h → IsDevice h → Is R.the-row a (va ∷ []) → ent 𝓤 (⋆ 𝓤 H A (lent 𝓤 H A W κ₁ κ₂ q₁ q₂ xf xr)) (triple 𝓤 H A mem-at run answer .pre (to-answer 𝓤 H A κ₁ κ₂ q₁ q₂ xf xr h a va, tt))
   answer-asks reached was a-is =
       qed W (lent 𝓤 H A W κ₁ κ₂ q₁ q₂ xf xr) ∵ split ! $ split ! $ move ! (1 ∷ []) $ drop ! $ join ! $
-      says ! (record { device = h; reached = reached; state-is = refl; sz-is = refl }) $ frame ! $ nothing ! $ move ! (2 ∷ 0 ∷ []) $ fjoin ! $ move ! (1 ∷ 0 ∷ []) $ fjoin ! $
-      owned ! R.the-row (Is R.the-row) (EL.makes R.the-type R′.the-plain 𝓤 H A) a (va ∷ []) a-is $ fjoin ! $ owned ! i64 (Is i64) (sint-makes 𝓤 H A W w64) (h .setup .figures .system .sz) _ (sz-is h was) $ fjoin ! $
+      says ! (record { device = h; reached = reached; state-is = refl; setup-is = refl }) $ frame ! $ nothing ! $ move ! (2 ∷ 0 ∷ []) $ fjoin ! $ move ! (1 ∷ 0 ∷ []) $ fjoin ! $
+      owned ! R.the-row (Is R.the-row) (EL.makes R.the-type R′.the-plain 𝓤 H A) a (va ∷ []) a-is $ fjoin ! $ owned ! U.the-row (Is U.the-row) (LL.makes U.the-type U′.the-plain 𝓤 H A) (h .setup) _ (setup-is h was) $ fjoin ! $
       owned ! S.the-row (Is S.the-row) (LL.makes S.the-type S′.the-plain 𝓤 H A) (h .state) _ (state-is h was) $ fjoin ! $ done !
 
 module _ {M : Type 1} (𝓤 : URA M) (H : Heap 𝓤) (A : Atoms 𝓤) (κ₁ κ₂ : Lft) (q₁ q₂ : Share) (xf xr : RefT (List ℕ)) where
@@ -105,10 +108,7 @@ module _ {M : Type 1} (𝓤 : URA M) (H : Heap 𝓤) (A : Atoms 𝓤) (κ : Lft)
   to-obey = ((κ, tt), (q, tt), tt, (record { ptr = (b, o); name = γ; now = h }, (a, tt)), (vptr b o ∷ [], (va ∷ [], tt)))
 
 module _ {M : Type 1} (𝓤 : URA M) (H : Heap 𝓤) (A : Atoms 𝓤) (W : Given 𝓤 H A) (mem-at : Memory → SProp 𝓤) (run : Routine → Fun 𝓤) (κ : Lft) (q : Share) (b o : ℕ) (γ : GName) (h : Device) (a : Frame) (va : Val) where
-  abbrev record-lent : List (Item 𝓤)
-  record-lent = ‵ (fobs γ (D.the-row .coded .code h)) ∷ ‵ (fbor κ (Body (mem D.the-row) b o γ)) ∷ ‵ (flft κ q) ∷ []
-
-  pub obey-asks : Is R.the-row a (va ∷ []) → ent 𝓤 (⋆ 𝓤 H A record-lent) (triple 𝓤 H A mem-at run obey .pre (to-obey 𝓤 H A κ q b o γ h a va, tt))
+  pub obey-asks : Is R.the-row a (va ∷ []) → ent 𝓤 (⋆ 𝓤 H A (lent-record 𝓤 κ q b o γ h)) (triple 𝓤 H A mem-at run obey .pre (to-obey 𝓤 H A κ q b o γ h a va, tt))
   obey-asks a-is =
-      qed W record-lent ∵ nothing ! $ owned ! R.the-row (Is R.the-row) (EL.makes R.the-type R′.the-plain 𝓤 H A) a (va ∷ []) a-is $ fjoin ! $ move ! (1 ∷ 2 ∷ []) $ feqI ! (List Val) (vptr b o ∷ []) (vptr b o ∷ []) refl $ fjoin3 ! $ fjoin ! $
+      qed W (lent-record 𝓤 κ q b o γ h) ∵ nothing ! $ owned ! R.the-row (Is R.the-row) (EL.makes R.the-type R′.the-plain 𝓤 H A) a (va ∷ []) a-is $ fjoin ! $ move ! (1 ∷ 2 ∷ []) $ feqI ! (List Val) (vptr b o ∷ []) (vptr b o ∷ []) refl $ fjoin3 ! $ fjoin ! $
       nothing ! $ move ! (2 ∷ 0 ∷ []) $ join ! $ join ! $ frame ! $ done !

@@ -4,6 +4,7 @@ mod Record
 mod Call
 mod Callees
 mod Branch
+mod Handed
 mod Lent
 mod Entered
 mod Walk

@@ -27,6 +27,8 @@ use denote.Steps.{only, opens, closes, owned, facts, nothing}
 use denote.Struct.Laws as LL
 use denote.Struct.Steps.{spelt}
 use denote.Builtin.{i64}
+use Rattle.figures.specs.declared.Calibration.{Calibration}
+use Rattle.figures.proofs.Calibration as F
 use Rattle.figures.proofs.Calibration.Laws as F′
 use Rattle.figures.proofs.Cell as C
 use Rattle.figures.proofs.Cell.Laws as C′
@@ -39,6 +41,7 @@ use Rattle.figures.proofs.System.Laws as Y′
 use Rattle.figures.proofs.Filter as I
 use Rattle.figures.proofs.Filter.Laws as I′
 use Rattle.state.specs.declared.State.{State}
+use Rattle.state.proofs.Setup as U
 use Rattle.state.proofs.Setup.Laws as U′
 use Rattle.state.proofs.Readings as G
 use Rattle.state.proofs.Readings.Laws as G′
@@ -48,8 +51,8 @@ use Rattle.converter.specs.declared.Device.{Device}
 use Rattle.converter.proofs.Device as D
 use Rattle.converter.proofs.Device.Laws as D′
 use Rattle.board.proofs.Field.{IsStruct, sub-in}
-use Rattle.board.proofs.Kept.{mach, mach-figures, mach-cell, mach-temperature, mach-linearity, mach-system, mach-filter, mach-state, mach-readings, IsDevice, parts, five, three-are, mach-is, mach-five, number, zeroed, rezero, rezero-is, restate, tells, state-tells, state-typed, state-is}
-use Rattle.board.proofs.Kept.{five-is, readings-is, sz-is, station-fits}
+use Rattle.board.proofs.Kept.{mach, mach-figures, mach-setup, mach-cell, mach-temperature, mach-linearity, mach-system, mach-filter, mach-state, mach-readings, IsDevice, parts, around, five, three-are, mach-is, mach-setup-is, mach-five, number, zeroed, refigure, recopy, rezero, rezero-is, restate, tells, figures-tell, state-tells, state-typed, state-is}
+use Rattle.board.proofs.Kept.{setup-is, figures-is, copy-is, five-is, readings-is, sz-is, station-fits}
 
 -- the record's cell, and what opens it
 abbrev pub held : ℕ → ℕ → Device → Fml
@@ -94,7 +97,10 @@ setup-at = refl
 pub figures-at : fieldOf U′.mir 0 ≡ some (F′.mir, 0)
 figures-at = refl
 
-station-at : fieldOf U′.mir 1 ≡ some (tyInt w8, 336)
+pub copy-at : fieldOf U′.mir 1 ≡ some (F′.mir, 336)
+copy-at = refl
+
+station-at : fieldOf U′.mir 2 ≡ some (tyInt w8, 672)
 station-at = refl
 
 pub system-at : fieldOf F′.mir 3 ≡ some (Y′.mir, 280)
@@ -103,7 +109,7 @@ system-at = refl
 pub sz-at : fieldOf Y′.mir 4 ≡ some (tyInt w64, 32)
 sz-at = refl
 
-pub state-at : fieldOf D′.mir 1 ≡ some (S′.mir, 344)
+pub state-at : fieldOf D′.mir 1 ≡ some (S′.mir, 680)
 state-at = refl
 
 readings-at : fieldOf S′.mir 0 ≡ some (G′.mir, 0)
@@ -123,23 +129,30 @@ module _ {M : Type 1} {𝓤 : URA M} {H : Heap 𝓤} {A : Atoms 𝓤} {K : Type 
   within : (d : Device) {vs : Vals} → mach d ≡ vstruct vs → {τ : Ty} {e : ℕ} {v : Val} {back : Val → Item 𝓤} → Part K W (‵ (fat fullShare D′.mir b o (vstruct vs))) fullShare τ b e v back → Part K W (‵ (held b o d)) fullShare τ b e v back
   within d is {τ} {e} {v} {back} = subst (λ (u : Val). Part K W (‵ (fat fullShare D′.mir b o u)) fullShare τ b e v back) (sym is)
 
-  setup-part : K → (f : Val) (n : ℕ) (s : Val) → Part K W (‵ (fat fullShare D′.mir b o (vstruct (parts f n s)))) fullShare U′.mir b (o + 0) (vstruct (vcons f (vcons (vint w8 n) vnil))) (λ u. ‵ (fat fullShare D′.mir b o (vstruct (vcons u (vcons s vnil)))))
-  setup-part t f n s = sub-in t D′.mir device-struct 0 U′.mir 0 setup-at (whole t)
+  setup-part : K → (u s : Val) → Part K W (‵ (fat fullShare D′.mir b o (vstruct (vcons u (vcons s vnil))))) fullShare U′.mir b (o + 0) u (λ w. ‵ (fat fullShare D′.mir b o (vstruct (vcons w (vcons s vnil)))))
+  setup-part t u s = sub-in t D′.mir device-struct 0 U′.mir 0 setup-at (whole t)
 
-  figure-part : K → (k : ℕ) (τ : Ty) (e : ℕ) → fieldOf F′.mir k ≡ some (τ, e) → (vs : Vals) (n : ℕ) (s : Val)
-      → Part K W (‵ (fat fullShare D′.mir b o (vstruct (parts (vstruct vs) n s)))) fullShare τ b (o + 0 + 0 + e) (getV vs k) (λ u. ‵ (fat fullShare D′.mir b o (vstruct (parts (vstruct (setV vs k u)) n s))))
-  figure-part t k τ e at vs n s = sub-in t F′.mir figures-struct k τ e at (sub-in t U′.mir setup-struct 0 F′.mir 0 figures-at (setup-part t (vstruct vs) n s))
+  -- the figures in force, a part of them, and the copy
+  figures-part : K → (d : Device) (f c s : Val) → Part K W (‵ (fat fullShare D′.mir b o (around d f c s))) fullShare F′.mir b (o + 0 + 0) f (λ u. ‵ (fat fullShare D′.mir b o (around d u c s)))
+  figures-part t d f c s = sub-in t U′.mir setup-struct 0 F′.mir 0 figures-at (setup-part t _ s)
 
-  state-part : K → (f : Val) (n : ℕ) (s : Val) → Part K W (‵ (fat fullShare D′.mir b o (vstruct (parts f n s)))) fullShare S′.mir b (o + 344) s (λ u. ‵ (fat fullShare D′.mir b o (vstruct (parts f n u))))
-  state-part t f n s = sub-in t D′.mir device-struct 1 S′.mir 344 state-at (whole t)
+  figure-part : K → (k : ℕ) (τ : Ty) (e : ℕ) → fieldOf F′.mir k ≡ some (τ, e) → (d : Device) (vs : Vals) (c s : Val)
+      → Part K W (‵ (fat fullShare D′.mir b o (around d (vstruct vs) c s))) fullShare τ b (o + 0 + 0 + e) (getV vs k) (λ u. ‵ (fat fullShare D′.mir b o (around d (vstruct (setV vs k u)) c s)))
+  figure-part t k τ e at d vs c s = sub-in t F′.mir figures-struct k τ e at (figures-part t d (vstruct vs) c s)
+
+  copy-part : K → (d : Device) (f c s : Val) → Part K W (‵ (fat fullShare D′.mir b o (around d f c s))) fullShare F′.mir b (o + 0 + 336) c (λ u. ‵ (fat fullShare D′.mir b o (around d f u s)))
+  copy-part t d f c s = sub-in t U′.mir setup-struct 1 F′.mir 336 copy-at (setup-part t _ s)
+
+  state-part : K → (u s : Val) → Part K W (‵ (fat fullShare D′.mir b o (vstruct (vcons u (vcons s vnil))))) fullShare S′.mir b (o + 680) s (λ w. ‵ (fat fullShare D′.mir b o (vstruct (vcons u (vcons w vnil)))))
+  state-part t u s = sub-in t D′.mir device-struct 1 S′.mir 680 state-at (whole t)
 
   module _ (d : Device) where
-    pub station-in : K → IsDevice d → Inside K W b o d (field 0 ∷ field 1 ∷ []) (tyInt w8) (vint w8 (d .setup .station))
+    pub station-in : K → IsDevice d → Inside K W b o d (field 0 ∷ field 2 ∷ []) (tyInt w8) (vint w8 (d .setup .station))
     station-in t is = record {
       offset = _;
       back = _;
       finds = fld t setup-at (fld t station-at (stop t));
-      part = within d (mach-is d) (sub-in t U′.mir setup-struct 1 (tyInt w8) 336 station-at (setup-part t _ _ _));
+      part = within d (mach-is d) (sub-in t U′.mir setup-struct 2 (tyInt w8) 672 station-at (setup-part t _ _));
       typed = (tt, record { fits = station-fits d is });
     }
 
@@ -148,7 +161,7 @@ module _ {M : Type 1} {𝓤 : URA M} {H : Heap 𝓤} {A : Atoms 𝓤} {K : Type 
       offset = _;
       back = _;
       finds = fld t state-at (stop t);
-      part = within d (mach-is d) (state-part t _ _ _);
+      part = within d (mach-is d) (state-part t _ _);
       typed = state-typed 𝓤 H A W (d .state) (state-is d is);
     }
 
@@ -157,8 +170,35 @@ module _ {M : Type 1} {𝓤 : URA M} {H : Heap 𝓤} {A : Atoms 𝓤} {K : Type 
       offset = _;
       back = _;
       finds = fld t state-at (fld t readings-at (stop t));
-      part = within d (mach-is d ∙ ap (λ (s : Val). vstruct (parts (mach-figures (d .setup .figures)) (d .setup .station) s)) (three-are (d .state))) (sub-in t S′.mir state-struct 0 G′.mir 0 readings-at (state-part t _ _ _));
+      part = within d (mach-is d ∙ ap (around d (mach-figures (d .setup .figures)) (mach-figures (d .setup .copy))) (three-are (d .state))) (sub-in t S′.mir state-struct 0 G′.mir 0 readings-at (state-part t _ _));
       typed = LL.lawful G.the-type G′.the-laws 𝓤 H A W .typed (d .state .readings) _ (readings-is d is) .0;
+    }
+
+    pub setup-in : K → IsDevice d → Inside K W b o d (field 0 ∷ []) U′.mir (mach-setup (d .setup))
+    setup-in t is = record {
+      offset = _;
+      back = _;
+      finds = fld t setup-at (stop t);
+      part = within d (mach-setup-is d) (setup-part t _ _);
+      typed = LL.lawful U.the-type U′.the-laws 𝓤 H A W .typed (d .setup) _ (setup-is d is) .0;
+    }
+
+    pub figures-in : K → IsDevice d → Inside K W b o d (field 0 ∷ field 0 ∷ []) F′.mir (mach-figures (d .setup .figures))
+    figures-in t is = record {
+      offset = _;
+      back = _;
+      finds = fld t setup-at (fld t figures-at (stop t));
+      part = within d (mach-is d) (figures-part t d _ _ _);
+      typed = LL.lawful F.the-type F′.the-laws 𝓤 H A W .typed (d .setup .figures) _ (figures-is d is) .0;
+    }
+
+    pub copy-in : K → IsDevice d → Inside K W b o d (field 0 ∷ field 1 ∷ []) F′.mir (mach-figures (d .setup .copy))
+    copy-in t is = record {
+      offset = _;
+      back = _;
+      finds = fld t setup-at (fld t copy-at (stop t));
+      part = within d (mach-is d) (copy-part t d _ _ _);
+      typed = LL.lawful F.the-type F′.the-laws 𝓤 H A W .typed (d .setup .copy) _ (copy-is d is) .0;
     }
 
     pub sz-in : K → IsDevice d → Inside K W b o d (field 0 ∷ field 0 ∷ field 3 ∷ field 4 ∷ []) (tyInt w64) (number (d .setup .figures .system .sz))
@@ -166,7 +206,7 @@ module _ {M : Type 1} {𝓤 : URA M} {H : Heap 𝓤} {A : Atoms 𝓤} {K : Type 
       offset = _;
       back = _;
       finds = fld t setup-at (fld t figures-at (fld t system-at (fld t sz-at (stop t))));
-      part = within d (rezero-is d (d .setup .figures .system .sz)) (sub-in t Y′.mir system-struct 4 (tyInt w64) 32 sz-at (figure-part t 3 Y′.mir 280 system-at _ _ _));
+      part = within d (rezero-is d (d .setup .figures .system .sz)) (sub-in t Y′.mir system-struct 4 (tyInt w64) 32 sz-at (figure-part t 3 Y′.mir 280 system-at d _ _ _));
       typed = sint-lawful 𝓤 H A W w64 .typed (d .setup .figures .system .sz) _ (sz-is d is) .0;
     }
 
@@ -175,7 +215,7 @@ module _ {M : Type 1} {𝓤 : URA M} {H : Heap 𝓤} {A : Atoms 𝓤} {K : Type 
       offset = _;
       back = _;
       finds = fld t setup-at (fld t figures-at (fld t at (stop t)));
-      part = within d (mach-five d) (figure-part t k τ e at _ _ _);
+      part = within d (mach-five d) (figure-part t k τ e at d _ _ _);
       typed = typed;
     }
 
@@ -209,12 +249,22 @@ module _ {M : Type 1} {𝓤 : URA M} {H : Heap 𝓤} {A : Atoms 𝓤} {K : Type 
   stores : K → (n : ℕ) {b o : ℕ} {d : Device} → nth 𝓤 H A n Γ ≡ ‵ (held b o d) → {st : List PlaceStep} {τ : Ty} {v₀ v : Val} (p : Inside K W b o d st τ v₀) → Holds (hasTy τ v) × WT v → (d′ : Device) → p .back v ≡ mach d′ → Writes K W Γ τ b (p .offset) v (put 𝓤 H A n (‵ (held b o d′)) Γ)
   stores t n {b} {o} e {st} {τ} {v₀} {v} p wt d′ is = subst (λ (u : Val). Writes K W Γ τ b (p .offset) v (put 𝓤 H A n (‵ (fat fullShare D′.mir b o u)) Γ)) is (store-in t n (at-entry e p) wt)
 
-  pub stores-state : K → (n : ℕ) {b o : ℕ} (d : Device) → nth 𝓤 H A n Γ ≡ ‵ (held b o d) → IsDevice d → (s : State) {v : Val} → Is S.the-row s (v ∷ []) → Writes K W Γ S′.mir b (o + 344) v (put 𝓤 H A n (‵ (held b o (restate d s))) Γ)
+  pub stores-state : K → (n : ℕ) {b o : ℕ} (d : Device) → nth 𝓤 H A n Γ ≡ ‵ (held b o d) → IsDevice d → (s : State) {v : Val} → Is S.the-row s (v ∷ []) → Writes K W Γ S′.mir b (o + 680) v (put 𝓤 H A n (‵ (held b o (restate d s))) Γ)
   unfolding state-in
   stores-state t n d e was s is = stores t n e (state-in d t was) (LL.lawful S.the-type S′.the-laws 𝓤 H A W .typed s _ is .0) (restate d s)
-      (ap (λ (u : Val). vstruct (parts (mach-figures (d .setup .figures)) (d .setup .station) u)) (ap only (state-tells s _ is)) ∙ sym (mach-is (restate d s)))
+      (ap (around d (mach-figures (d .setup .figures)) (mach-figures (d .setup .copy))) (ap only (state-tells s _ is)) ∙ sym (mach-is (restate d s)))
+
+  pub stores-figures : K → (n : ℕ) {b o : ℕ} (d : Device) → nth 𝓤 H A n Γ ≡ ‵ (held b o d) → IsDevice d → (c : Calibration) {v : Val} → Is F.the-row c (v ∷ []) → Writes K W Γ F′.mir b (o + 0 + 0) v (put 𝓤 H A n (‵ (held b o (refigure d c))) Γ)
+  unfolding figures-in
+  stores-figures t n d e was c is = stores t n e (figures-in d t was) (LL.lawful F.the-type F′.the-laws 𝓤 H A W .typed c _ is .0) (refigure d c)
+      (ap (λ (u : Val). around d u (mach-figures (d .setup .copy)) (mach-state (d .state))) (ap only (figures-tell c _ is)) ∙ sym (mach-is (refigure d c)))
+
+  pub stores-copy : K → (n : ℕ) {b o : ℕ} (d : Device) → nth 𝓤 H A n Γ ≡ ‵ (held b o d) → IsDevice d → (c : Calibration) {v : Val} → Is F.the-row c (v ∷ []) → Writes K W Γ F′.mir b (o + 0 + 336) v (put 𝓤 H A n (‵ (held b o (recopy d c))) Γ)
+  unfolding copy-in
+  stores-copy t n d e was c is = stores t n e (copy-in d t was) (LL.lawful F.the-type F′.the-laws 𝓤 H A W .typed c _ is .0) (recopy d c)
+      (ap (λ (u : Val). around d (mach-figures (d .setup .figures)) u (mach-state (d .state))) (ap only (figures-tell c _ is)) ∙ sym (mach-is (recopy d c)))
 
   pub stores-sz : K → (n : ℕ) {b o : ℕ} (d : Device) → nth 𝓤 H A n Γ ≡ ‵ (held b o d) → IsDevice d → (z : ℤ) {v : Val} → Is i64 z (v ∷ []) → Writes K W Γ (tyInt w64) b (o + 0 + 0 + 280 + 32) v (put 𝓤 H A n (‵ (held b o (rezero d z))) Γ)
   unfolding sz-in
   stores-sz t n d e was z is = stores t n e (sz-in d t was) (sint-lawful 𝓤 H A W w64 .typed z _ is .0) (rezero d z)
-      (ap (λ (u : Val). vstruct (parts (zeroed (d .setup .figures) u) (d .setup .station) (mach-state (d .state)))) (ap only (sint-tells w64 z _ is)) ∙ sym (rezero-is d z))
+      (ap (λ (u : Val). around d (zeroed (d .setup .figures) u) (mach-figures (d .setup .copy)) (mach-state (d .state))) (ap only (sint-tells w64 z _ is)) ∙ sym (rezero-is d z))

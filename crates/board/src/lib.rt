@@ -3,6 +3,9 @@
 // `converter`'s entries, read at entry and exit.
 ghost use mathlib.Core.Path.{_≡_};
 ghost use Rattle.state.specs.Report.{reported};
+ghost use mathlib.Core.Bool.{false};
+ghost use Rattle.state.specs.InForce.{copyFits, applied};
+ghost use Rattle.state.specs.Parts.{applies, obeys};
 ghost use Rattle.converter.specs.Call.{obeyed};
 ghost use Rattle.converter.specs.Reached.{Reached, Making, Reading, Serving};
 use converter::Answered;
@@ -48,7 +51,7 @@ pub extern "C" fn converter_reading(device: &mut Device, elec: i64, temp: i64, i
     0
 }
 
-// A bus frame, and a buffer for the reply, of which the bytes past the reply stay as they are: 0, or 10 to 16.
+// A bus frame, and a buffer for the reply, of which the bytes past the reply stay as they are: 0, or 10 to 17.
 #[no_mangle]
 pub extern "C" fn converter_frame(device: &mut Device, frame: &[u8], reply: &mut [u8]) -> Answered
     requires { ⌜ Reached (now device) ⌝ }
@@ -56,29 +59,54 @@ pub extern "C" fn converter_frame(device: &mut Device, frame: &[u8], reply: &mut
 {
     let asked = modbus::frame::judge(frame, reply.len(), device.setup.station);
     if state::is_read(asked) {
-        return converter::answer(
-            device.state,
-            device.setup.figures.system.sz,
-            asked,
-            frame,
-            reply,
-        );
+        return converter::answer(device.state, device.setup, asked, frame, reply);
     }
-    if state::is_obeyed(device.state.readings, asked) {
-        obey(device, asked);
+    if obey(device, asked) {
         return converter::acknowledge(frame, reply);
     }
     converter::refuse(asked, frame, reply)
 }
 
-// A judged frame obeyed: what it can change is stored, and nothing else.
-fn obey(device: &mut Device, asked: Frame)
+// A judged frame that is no read is obeyed, or not: what it can change is stored, and nothing else.
+fn obey(device: &mut Device, asked: Frame) -> bool
+    ensures { λ r. ⌜ (r ≡ obeys (now (device .entry) .state) (now (device .entry) .setup) asked) × (now (device .exit) ≡ obeyed (now (device .entry)) asked) ⌝ }
+{
+    if state::applies(asked) {
+        return apply(device);
+    }
+    if state::is_obeyed(device.state.readings, asked) {
+        store(device, asked);
+        return true;
+    }
+    false
+}
+
+// 99: the copy is put in force, where a sheet with its figures would be accepted.
+fn apply(device: &mut Device) -> bool
+    ensures { λ r. ⌜ (r ≡ copyFits (now (device .entry) .setup)) × (now (device .exit) ≡ record { setup = applied (now (device .entry) .setup); state = now (device .entry) .state }) ⌝ }
+{
+    let offered = state::offer(device.setup.figures.system.sz, device.setup.copy);
+    if state::is_accepted(offered) {
+        device.setup.figures = offered;
+        return true;
+    }
+    false
+}
+
+// SZ; the copy and the state, of RST; the state; or the copy.
+fn store(device: &mut Device, asked: Frame)
+    requires { ⌜ applies asked ≡ false ⌝ }
     ensures { λ _. ⌜ now (device .exit) ≡ obeyed (now (device .entry)) asked ⌝ }
 {
-    if state::changes_state(asked) {
-        device.state = state::state_after(device.state, asked);
-    } else if state::changes_zero(asked) {
+    if state::changes_zero(asked) {
         device.setup.figures.system.sz = state::zero_after(device.setup.figures.system.sz, asked);
+    } else if state::restarts(asked) {
+        device.setup.copy = panel::unused_zero(device.setup.figures);
+        device.state = state::fresh();
+    } else if state::changes_state(asked) {
+        device.state = state::state_after(device.state, asked);
+    } else {
+        device.setup.copy = state::copy_after(device.setup.copy, asked);
     }
 }
 
