@@ -1,6 +1,6 @@
 // The library by example: a sheet is written and read back by its cursor, a device is made of it, takes two readings, serves frames and
-// gives reports. Each call prints a line: what was called, its number, and what it gave. The device that a call gives back is handed to
-// the next.
+// gives reports, and is calibrated from the panel. Each call prints a line: what was called, its number, and what it gave. The device that
+// a call gives back is handed to the next.
 ghost use Rattle.figures.specs.Default.{defaultSheet};
 ghost use Rattle.sheet.specs.Write.{sheetBytes};
 ghost use Rattle.converter.specs.Call.{reading, frame};
@@ -24,7 +24,9 @@ fn main() {
     device = read_values(device);
     device = write_zero(device);
     print_report(b"with a reading", device);
-    restart(device);
+    device = restart(device);
+    device = calibrate(device);
+    set_copy_back(device);
 }
 
 // A device of the default sheet, at station 52. The buffer has room for the longest sheet.
@@ -105,6 +107,55 @@ fn restart(device: Device) -> Device
     );
     print_report(b"after RST", next);
     send(next, b"read FLAG", b"\x34\x03\x00\x1c\x00\x02\x00\x68")
+}
+
+// CGAI (40) of the waiting copy becomes 2.0. SYS, at 40 %, is by the figures in force until a write to register 99 puts the copy in
+// force, from the next reading.
+fn calibrate(device: Device) -> Device
+    requires { ⌜ Reached device ⌝ }
+    ensures { λ r. ⌜ Reached r ⌝ }
+{
+    let mut next = send(
+        device,
+        b"write CGAI",
+        b"\x34\x10\x00\x50\x00\x02\x04\x00\x00\x40\x00\x29\x9f",
+    );
+    next = send(next, b"read CGAI", b"\x34\x03\x00\x50\x00\x02\xc1\xbf");
+    next = take_reading(next, b"40 %", 2_621_440, 1_310_720, 0);
+    next = send(next, b"read SYS", b"\x34\x03\x00\x14\x00\x02\x81\xaa");
+    next = send(
+        next,
+        b"write 99",
+        b"\x34\x10\x00\xc6\x00\x02\x04\x00\x00\x00\x00\x91\x19",
+    );
+    next = take_reading(next, b"40 %", 2_621_440, 1_310_720, 0);
+    send(next, b"read SYS", b"\x34\x03\x00\x14\x00\x02\x81\xaa")
+}
+
+// CMIN (44) of the copy becomes 160, above CMAX: no sheet with these figures would be accepted, so 99 is refused and the copy stays as
+// written. RST sets it back to the figures in force.
+fn set_copy_back(device: Device) -> Device
+    requires { ⌜ Reached device ⌝ }
+    ensures { λ r. ⌜ Reached r ⌝ }
+{
+    let mut next = send(
+        device,
+        b"write CMIN",
+        b"\x34\x10\x00\x58\x00\x02\x04\x00\x00\x43\x20\x29\x11",
+    );
+    next = send(
+        next,
+        b"write 99",
+        b"\x34\x10\x00\xc6\x00\x02\x04\x00\x00\x00\x00\x91\x19",
+    );
+    next = send(next, b"read CMIN", b"\x34\x03\x00\x58\x00\x02\x40\x7d");
+    next = send(
+        next,
+        b"write RST",
+        b"\x34\x10\x00\xc8\x00\x02\x04\x00\x00\x00\x00\x10\x95",
+    );
+    next = send(next, b"read CMIN", b"\x34\x03\x00\x58\x00\x02\x40\x7d");
+    send(next, b"read CGAI", b"\x34\x03\x00\x50\x00\x02\xc1\xbf")
 }
 
 // A reading of ELEC and TEMP, in steps, and the integrity byte.

@@ -3,24 +3,26 @@ use mathlib.Core.Path.{_≡_}
 use mathlib.Core.List.{List, _++_}
 use Prim.Native.Nat.{ℕ}
 use lib.ListN.{length, drop}
-use lib.Ieee.{ofBits, toBits, div, neg, round}
+use lib.Ieee.{Float, ofBits, toBits, div, neg, round}
 use Rattle.arithmetic.specs.Round.{roundDiv, floorDiv}
-use Rattle.binary32.specs.Received.{zeroFits, zeroSteps, nearestStep, inWord, flagFits, flagWhole}
-use Rattle.binary32.specs.Sent.{stepFloat}
+use Rattle.binary32.specs.Received.{takes, nearest, counted, Computable}
+use Rattle.binary32.specs.declared.received.Range.{Range}
+use Rattle.binary32.specs.Sent.{countFloat}
 use Rattle.binary32.specs.Wire.{wireBytes}
 use Rattle.modbus.specs.Checksum.{taken, framed}
-use Rattle.modbus.specs.Register.{accessOf}
+use Rattle.modbus.specs.Register.{accessOf, rangeOf}
+use Rattle.modbus.proofs.Registers.{range-computable}
 use Rattle.modbus.specs.Frame.{checked, toUs, forUs, accessAsked, readAsked, writeOf, writeAsked, judged}
 use Rattle.modbus.specs.Reply.{silent, answer, writeReply, exceptionCode, exceptionReply, Replied}
 
 -- What a case computes with: to unfold one of these is to unfold all that its line names.
 
 unfoldable pub floats : Unit {0}
-unfolding ofBits toBits div neg round wireBytes stepFloat zeroFits zeroSteps nearestStep roundDiv floorDiv inWord flagFits flagWhole
+unfolding ofBits toBits div neg round wireBytes countFloat takes nearest counted roundDiv floorDiv accessOf rangeOf
 floats = tt
 
 unfoldable pub frames : Unit {0}
-unfolding floats taken accessOf checked toUs forUs accessAsked readAsked writeOf writeAsked judged
+unfolding floats taken checked toUs forUs accessAsked readAsked writeOf writeAsked judged
 frames = tt
 
 unfoldable pub replies : Unit {0}
@@ -36,3 +38,11 @@ pub replied :
     {bytes before after : List ℕ} {n : ℕ} →
     n ≡ length bytes → after ≡ bytes ++ drop (length bytes) before → Replied bytes before after n
 replied count buffer = record { count = count; buffer = buffer }
+
+-- A register's range can be computed with.
+pub ranged : (n : ℕ) {r : Range} → r ≡ rangeOf n → Computable r
+ranged n e = rw e (range-computable n)
+
+-- What is found of a range and a float, of those that they equal.
+pub found : {A : Type 0} (f : Range → Float → A) {r q : Range} {x y : Float} {a b : A} → a ≡ f r x → r ≡ q → x ≡ y → f q y ≡ b → a ≡ b
+found f h e g k = rw (h, e, g) k

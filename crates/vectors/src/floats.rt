@@ -4,8 +4,7 @@ ghost use mathlib.Core.Bool.{true, false};
 ghost use lib.Dec.{leb};
 ghost use lib.IntN.{natAbs};
 ghost use lib.Ieee.{binary32, ofBits};
-ghost use Rattle.binary32.specs.Received.{zeroFits, zeroSteps, flagFits, flagWhole};
-ghost use Rattle.binary32.specs.Sent.{stepFloat};
+ghost use Rattle.binary32.specs.Sent.{stepFloat, countFloat};
 ghost use Rattle.binary32.specs.Wire.{received};
 
 // Four bytes come in as the expected float; compared are the bytes of the two as they are sent.
@@ -27,7 +26,7 @@ pub(crate) fn of_001() {
 }
 
 // The float of a pattern, through its bytes.
-fn float_of(bits: u32) -> f32
+pub(crate) fn float_of(bits: u32) -> f32
     ensures { λ r. ⌜ r ≡ ofBits binary32 bits ⌝ }
 {
     binary32::wire::float_of_bytes(
@@ -48,7 +47,7 @@ fn goes_out(z: i64, bits: u32)
     check::expect(bytes == binary32::wire::bytes_of_float(float_of(bits)));
 }
 
-pub(crate) fn out() {
+pub(crate) fn steps_out() {
     // Step counts that are floats exactly, with the two ends of the range.
     goes_out(1, 0x37800000);
     goes_out(65535, 0x3f7fff00);
@@ -65,77 +64,34 @@ pub(crate) fn out() {
     goes_out(123456789, 0x44eb79a3);
 }
 
-// SZ takes the float of a pattern as the expected step count.
-fn zero_is(bits: u32, steps: i64)
-    requires { ⌜ zeroFits (ofBits binary32 bits) ≡ true ⌝ }
-    requires { ⌜ zeroSteps (ofBits binary32 bits) ≡ steps ⌝ }
+// The same of a count of 1/2^28, as gains and gain adjustments go out (Change 1).
+fn part_goes_out(z: i64, bits: u32)
+    requires { ⌜ leb (natAbs z) 17179869184 ≡ true ⌝ }
+    requires { ⌜ countFloat 28 z ≡ ofBits binary32 bits ⌝ }
 {
-    let x = float_of(bits);
-    check::expect(binary32::received::zero_fits(x));
-    check::expect(binary32::received::zero_steps(x) == steps);
+    let bytes = binary32::wire::bytes_of_float(binary32::sent::float_of_parts(z));
+    check::expect(bytes == binary32::wire::bytes_of_float(float_of(bits)));
 }
 
-// SZ does not take it.
-fn zero_unfit(bits: u32)
-    requires { ⌜ zeroFits (ofBits binary32 bits) ≡ false ⌝ }
-{
-    check::expect(!binary32::received::zero_fits(float_of(bits)));
-}
-
-pub(crate) fn zeros() {
-    // At and beside half a step: halves go upwards.
-    zero_is(0x37000000, 1);
-    zero_is(0xb7000000, 0);
-    zero_is(0x37c00000, 2);
-    zero_is(0xb7c00000, -1);
-    zero_is(0x36ffffff, 0);
-    zero_is(0xb7000001, -1);
-    // Subnormals, −0.0, just under half a unit, and the two ends.
-    zero_is(0x00000001, 0);
-    zero_is(0x80000001, 0);
-    zero_is(0x80000000, 0);
-    zero_is(0x3efffffe, 32768);
-    zero_is(0x3fc00000, 98304);
-    zero_is(0x46fa0000, 2097152000);
-    zero_is(0xc6fa0000, -2097152000);
-    // Beyond the ends, infinities and a NaN.
-    zero_unfit(0x46fa0001);
-    zero_unfit(0xc6fa0001);
-    zero_unfit(0x7f800000);
-    zero_unfit(0xff800000);
-    zero_unfit(0x7fc00000);
-}
-
-// FLAG takes the float of a pattern as the expected whole number.
-fn flag_is(bits: u32, whole: u16)
-    requires { ⌜ flagFits (ofBits binary32 bits) ≡ true ⌝ }
-    requires { ⌜ flagWhole (ofBits binary32 bits) ≡ whole ⌝ }
-{
-    let x = float_of(bits);
-    check::expect(binary32::received::flag_fits(x));
-    check::expect(binary32::received::flag_whole(x) == whole);
-}
-
-// FLAG does not take it.
-fn flag_unfit(bits: u32)
-    requires { ⌜ flagFits (ofBits binary32 bits) ≡ false ⌝ }
-{
-    check::expect(!binary32::received::flag_fits(float_of(bits)));
-}
-
-pub(crate) fn flags() {
-    // Both ends, −0.0, 1 and REBOOT.
-    flag_is(0x00000000, 0);
-    flag_is(0x80000000, 0);
-    flag_is(0x3f800000, 1);
-    flag_is(0x477fff00, 65535);
-    flag_is(0x47000000, 32768);
-    // Beyond the ends, fractions, an infinity and a NaN.
-    flag_unfit(0x47800000);
-    flag_unfit(0x3f000000);
-    flag_unfit(0xbf800000);
-    flag_unfit(0x477fff01);
-    flag_unfit(0x00000001);
-    flag_unfit(0x7f800000);
-    flag_unfit(0x7fc00001);
+pub(crate) fn parts_out() {
+    // Counts that are floats exactly: 0, 1, 20.0 and the two ends, ±64.
+    part_goes_out(0, 0x00000000);
+    part_goes_out(1, 0x31800000);
+    part_goes_out(-1, 0xb1800000);
+    part_goes_out(268435456, 0x3f800000);
+    part_goes_out(5368709120, 0x41a00000);
+    part_goes_out(17179869184, 0x42800000);
+    part_goes_out(-17179869184, 0xc2800000);
+    // From 1 on floats stand 32 counts apart: nearest, ties to the even one, on both sides of zero.
+    part_goes_out(268435457, 0x3f800000);
+    part_goes_out(268435472, 0x3f800000);
+    part_goes_out(268435473, 0x3f800001);
+    part_goes_out(268435504, 0x3f800002);
+    part_goes_out(-268435472, 0xbf800000);
+    part_goes_out(-268435504, 0xbf800002);
+    // Below 64 they stand 1,024 apart; the largest CTG goes out as the float below 0.1.
+    part_goes_out(17179868672, 0x42800000);
+    part_goes_out(17179868671, 0x427fffff);
+    part_goes_out(26843545, 0x3dcccccc);
+    part_goes_out(-26843545, 0xbdcccccc);
 }

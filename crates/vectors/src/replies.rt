@@ -103,7 +103,7 @@ pub(crate) fn exceptions() {
 }
 
 pub(crate) fn exceptions_to_writes() {
-    // 15, 10 and 16 on a write.
+    // 15, 10 and 16 on a write, and 17 (Change 1).
     exception_is(
         b"\x34\x10\x00\x38\x00\x02\x04\x00\x00\x00\x00\x1f\xd1",
         15,
@@ -122,10 +122,25 @@ pub(crate) fn exceptions_to_writes() {
         b"\x34\x90\x03\x1c\x0f\xee\xee\xee\xee\xee\xee\xee",
         5,
     );
+    exception_is(
+        b"\x34\x10\x00\xc6\x00\x02\x04\x00\x00\x00\x00\x91\x19",
+        17,
+        b"\x34\x90\x03\x1c\x0f\xee\xee\xee\xee\xee\xee\xee",
+        5,
+    );
+}
+
+pub(crate) fn silences() {
     // No reply to a broadcast, nor with 13 or 12.
     exception_is(
         b"\x00\x10\x00\x14\x00\x02\x04\x00\x00\x00\x00\xf7\xac",
         16,
+        b"\xee\xee\xee\xee\xee\xee\xee\xee\xee\xee\xee\xee",
+        0,
+    );
+    exception_is(
+        b"\x00\x10\x00\xc6\x00\x02\x04\x00\x00\x00\x00\x7b\x29",
+        17,
         b"\xee\xee\xee\xee\xee\xee\xee\xee\xee\xee\xee\xee",
         0,
     );

@@ -1,9 +1,0 @@
--- Each case of `vectors::floats::flags` computes to what is expected. Assumes nothing.
-use borrow.Author.Needs.{needs}
-use Rattle.vectors.proofs.Cases.{floats, both}
-use Rattle.vectors.proofs.floats.flags.Statement.{statement}
-use Rattle.vectors.proofs.floats.flags.Tie as tie
-
-pub flags-spec : {M : Type 1} → statement M
-unfolding floats
-flags-spec = tie.close (search (needs, both, tie.spec))
