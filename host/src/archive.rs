@@ -20,7 +20,7 @@ record!(System { sofs: i64, sgai: i64, smin: i64, smax: i64, sz: i64 });
 record!(Filter { fflv: i64, ffst: i64 });
 record!(Calibration { cell: Cell, temperature: Temperature, linearity: Linearity, system: System, filter: Filter });
 record!(Values { craw: i64, cell: i64, sraw: i64, sys: i64, stat: u16 });
-record!(Setup { figures: Calibration, station: u8 });
+record!(Setup { figures: Calibration, copy: Calibration, station: u8 });
 record!(Readings { any: u8, elec: i64, temp: i64, values: Values, peak: i64, trof: i64 });
 record!(Snapshot { taken: u8, sysn: i64 });
 record!(State { readings: Readings, flag: u16, snapshot: Snapshot });
@@ -60,7 +60,7 @@ impl Converter for Device {
     }
 
     fn state(&self) -> model::Device {
-        let Setup { figures, station } = self.setup;
+        let Setup { figures, copy, station } = self.setup;
         let State { readings: r, flag, snapshot } = self.state;
         let v = r.values;
         let reading = Reading {
@@ -77,6 +77,7 @@ impl Converter for Device {
         model::Device {
             station,
             figures: figures.into(),
+            copy: copy.into(),
             flag,
             last: (r.any != 0).then_some(reading),
             snapshot: (snapshot.taken != 0).then_some(snapshot.sysn),

@@ -1,6 +1,9 @@
 //! Seeded random and adversarial calls. The model's state is looked at only to aim at the edges.
 
-use crate::{read_frame, sealed, write_frame, REGISTERS};
+mod panel;
+
+use crate::{read_frame, sealed, write_frame, APPLY, REGISTERS, RST};
+use model::panel::Figure;
 use model::sheet::{self, most, LONGEST};
 use model::{Device, Figures};
 
@@ -206,22 +209,53 @@ pub enum Call {
     Frame(Vec<u8>, usize),
 }
 
-/// A call for a device in this state; `quiet` keeps to long histories of readings.
-pub fn call(rng: &mut Rng, d: &Device, quiet: bool) -> Call {
-    match rng.below(if quiet { 60 } else { 100 }) {
-        0..=54 => reading(rng, d),
-        55 => Call::Report,
-        56..=59 if quiet => {
-            let register = rng.pick(&[22, 103, 104, 14]);
-            Call::Frame(write_frame(d.station, 2 * register, float_bits(rng)), 9)
+/// Makes one call after another.
+pub struct Calls {
+    rng: Rng,
+    /// A run of writes on the panel, the last one first.
+    run: Vec<panel::Write>,
+}
+
+impl Calls {
+    pub fn new(seed: u64) -> Calls {
+        Calls { rng: Rng::new(seed), run: Vec::new() }
+    }
+
+    /// A call for a device in this state, and what the lent buffer holds before it; `quiet` keeps to long histories of
+    /// readings.
+    pub fn next(&mut self, d: &Device, quiet: bool) -> (Call, u8) {
+        (self.call(d, quiet), self.rng.bits() as u8)
+    }
+
+    fn call(&mut self, d: &Device, quiet: bool) -> Call {
+        let rng = &mut self.rng;
+        if d.station == 0 {
+            return Call::Make(sheet(&figures(rng)), rng.range(1, 247) as u8);
         }
-        56..=91 => frame(rng, d),
-        92 => Call::Report,
-        _ => make(rng),
+        // Between the writes of a run come other calls.
+        let next = if rng.one_in(6) { None } else { self.run.pop() };
+        if let Some((register, bits)) = next {
+            let station = if rng.one_in(12) { 0 } else { d.station };
+            return Call::Frame(write_frame(station, 2 * register, bits), 9);
+        }
+        if rng.one_in(200) {
+            self.run = panel::run(rng);
+        }
+        match rng.below(if quiet { 60 } else { 100 }) {
+            0..=54 => reading(rng, d),
+            55 => Call::Report,
+            56..=59 if quiet => {
+                let register = rng.pick(&[22, 103, 104, 14, APPLY]);
+                Call::Frame(write_frame(d.station, 2 * register, float_bits(rng)), 9)
+            }
+            56..=91 => frame(rng, d),
+            92 => Call::Report,
+            _ => make(rng),
+        }
     }
 }
 
-pub fn make(rng: &mut Rng) -> Call {
+fn make(rng: &mut Rng) -> Call {
     let f = figures(rng);
     let mut bytes = sheet(&f);
     match rng.below(12) {
@@ -265,6 +299,19 @@ fn reading(rng: &mut Rng, d: &Device) -> Call {
     Call::Reading(elec, temp, if rng.one_in(12) { rng.pick(&[1, 1, 1, 2, 255]) } else { 0 })
 }
 
+/// A register for a frame: those that act on a write more often, RST less often.
+fn register(rng: &mut Rng, write: bool) -> u16 {
+    match rng.below(20) {
+        0 => APPLY,
+        1..=6 => panel::register(rng),
+        7..=13 if write => rng.pick(&[14, 22, 22, 103, 104]),
+        _ => match rng.pick(&REGISTERS) {
+            RST if rng.one_in(2) => 14,
+            register => register,
+        },
+    }
+}
+
 fn frame(rng: &mut Rng, d: &Device) -> Call {
     let station = match rng.below(12) {
         0 => 0,
@@ -272,38 +319,19 @@ fn frame(rng: &mut Rng, d: &Device) -> Call {
         _ => d.station,
     };
     let write = rng.one_in(2);
-    let mut register = rng.pick(&REGISTERS);
-    if write && rng.one_in(2) {
-        register = rng.pick(&[14, 22, 22, 103, 104]);
-    }
-    if register == 100 && rng.one_in(2) {
-        register = 14;
-    }
+    let register = register(rng, write);
     let address = match rng.below(12) {
         0 => (2 * register).wrapping_add(rng.pick(&[1, 2, 256, u16::MAX, u16::MAX - 1])),
         1 if rng.one_in(2) => rng.bits() as u16,
         _ => 2 * register,
     };
-    let mut bytes = if write { write_frame(station, address, float_bits(rng)) } else { read_frame(station, address) };
+    let bits = match Figure::at(register) {
+        Some(figure) => panel::bits_about(rng, figure.range()),
+        None => float_bits(rng),
+    };
+    let mut bytes = if write { write_frame(station, address, bits) } else { read_frame(station, address) };
     if rng.one_in(4) {
-        bytes.truncate(bytes.len() - 2);
-        for _ in 0..rng.range(1, 2) {
-            match rng.below(5) {
-                0 => bytes[1] = rng.pick(&[0, 1, 2, 3, 4, 6, 15, 16, 17, 128, 131, 144, 255]),
-                1 => bytes[5] = rng.pick(&[0, 1, 2, 3, 4]),
-                2 => bytes[4] = rng.pick(&[0, 1, 2, 255]),
-                3 if bytes.len() > 6 => bytes[6] = rng.pick(&[0, 2, 3, 4, 5, 8, 255]),
-                3 => bytes[1] = 16,
-                _ => {
-                    let length = [rng.range(2, 14), rng.range(6, 8), rng.range(252, 260)][rng.below(3) as usize];
-                    bytes.resize((length as usize).max(bytes.len().min(6)), rng.bits() as u8);
-                }
-            }
-        }
-        if rng.one_in(10) {
-            bytes.truncate(2);
-        }
-        bytes = sealed(bytes);
+        bytes = misshapen(rng, bytes);
     }
     match rng.below(40) {
         0 => {
@@ -319,4 +347,26 @@ fn frame(rng: &mut Rng, d: &Device) -> Call {
     }
     let room = if rng.one_in(8) { [rng.range(0, 20), 8, 256][rng.below(3) as usize] as usize } else { 9 };
     Call::Frame(bytes, room)
+}
+
+/// Another function, quantity, byte count or length, with a good checksum.
+fn misshapen(rng: &mut Rng, mut bytes: Vec<u8>) -> Vec<u8> {
+    bytes.truncate(bytes.len() - 2);
+    for _ in 0..rng.range(1, 2) {
+        match rng.below(5) {
+            0 => bytes[1] = rng.pick(&[0, 1, 2, 3, 4, 6, 15, 16, 17, 128, 131, 144, 255]),
+            1 => bytes[5] = rng.pick(&[0, 1, 2, 3, 4]),
+            2 => bytes[4] = rng.pick(&[0, 1, 2, 255]),
+            3 if bytes.len() > 6 => bytes[6] = rng.pick(&[0, 2, 3, 4, 5, 8, 255]),
+            3 => bytes[1] = 16,
+            _ => {
+                let length = [rng.range(2, 14), rng.range(6, 8), rng.range(252, 260)][rng.below(3) as usize];
+                bytes.resize((length as usize).max(bytes.len().min(6)), rng.bits() as u8);
+            }
+        }
+    }
+    if rng.one_in(10) {
+        bytes.truncate(2);
+    }
+    sealed(bytes)
 }

@@ -18,6 +18,8 @@ pub mod tool;
 
 pub use model::Converter;
 
+use model::panel::ROWS;
+
 /// The implementation set beside the model: the archive, or without it the model itself.
 #[cfg(feature = "archive")]
 pub use archive::Device as Other;
@@ -31,6 +33,16 @@ pub const FILL: u8 = 0xa5;
 
 /// The register numbers of paper 01.
 pub const REGISTERS: [u16; 16] = [6, 9, 10, 11, 12, 13, 14, 15, 16, 22, 23, 24, 25, 100, 103, 104];
+
+pub const RST: u16 = 100;
+
+/// Our own register of Change 1, a write to which puts the waiting copy in force.
+pub const APPLY: u16 = 99;
+
+/// The registers of Change 1: those of the figures, and our own.
+pub fn panel_registers() -> impl Iterator<Item = u16> {
+    ROWS.iter().flat_map(|row| row.first..=row.last).chain([APPLY])
+}
 
 /// Append the checksum, low byte first.
 pub fn sealed(mut frame: Vec<u8>) -> Vec<u8> {

@@ -20,6 +20,7 @@ pub fn meaning(number: u8) -> &'static str {
         14 => "function: not 3 or 16",
         15 => "address: odd, or not twice a listed register",
         16 => "value: length, quantity, byte count, a read-only register, or an unfit value",
+        17 => "unfit copy: a sheet with the figures of the waiting copy would be refused",
         _ => "no such number",
     }
 }

@@ -16,6 +16,11 @@ const BAUD: u32 = 600;
 const STATION: u8 = 52;
 const SYS: u16 = 20;
 const SZ: u16 = 44;
+const CGAI: u16 = 80;
+const CMIN: u16 = 88;
+/// Our own register 99.
+const APPLY: u16 = 198;
+const RST: u16 = 200;
 /// 100 % at 20 degrees.
 const READING: &str = "6553600 1310720 0";
 /// What a read of SYS then gets: 42C80000, words swapped.
@@ -152,7 +157,7 @@ fn a_reply_is_not_for_the_next_client() {
         bus.client = open_slave(bus.name.trim_end()).expect("the terminal opens again");
         sleep(silence(BAUD));
         // Nothing is lost but the reply: SZ was written.
-        assert_eq!(bus.exchange(&read_frame(STATION, SZ)), sealed(vec![STATION, 3, 4, 0, 0, 0x41, 0x48]));
+        assert_eq!(bus.exchange(&read_frame(STATION, SZ)), value([0x41, 0x48]));
         assert_eq!(bus.exchange(&write_frame(STATION, SZ, 0)), sealed(vec![STATION, 16, 0, 44, 0, 2]));
     }
 }
@@ -161,12 +166,38 @@ fn a_reply_is_not_for_the_next_client() {
 fn a_broadcast_acts_in_silence() {
     let mut bus = Bus::with_reading();
     assert_eq!(bus.exchange(&write_frame(0, SZ, 12.5_f32.to_bits())), []);
-    assert_eq!(bus.exchange(&read_frame(STATION, SZ)), sealed(vec![STATION, 3, 4, 0, 0, 0x41, 0x48]));
+    assert_eq!(bus.exchange(&read_frame(STATION, SZ)), value([0x41, 0x48]));
     bus.hand_in(READING);
     // SYS is 87.5.
-    assert_eq!(bus.exchange(&read_frame(STATION, SYS)), sealed(vec![STATION, 3, 4, 0, 0, 0x42, 0xaf]));
+    assert_eq!(bus.exchange(&read_frame(STATION, SYS)), value([0x42, 0xaf]));
     assert_eq!(bus.exchange(&read_frame(0, SYS)), []);
     assert_eq!(bus.exchange(&write_frame(0, SZ, f32::NAN.to_bits())), []);
+}
+
+/// The reply to a read, by the upper half of the float; the lower is 0.
+fn value(high: [u8; 2]) -> Vec<u8> {
+    sealed(vec![STATION, 3, 4, 0, 0, high[0], high[1]])
+}
+
+#[test]
+fn calibration_from_the_panel() {
+    let mut bus = Bus::with_reading();
+    let written = |address: u16| sealed(vec![STATION, 16, 0, address as u8, 0, 2]);
+    // CGAI 1.5 waits in the copy; in force, a reading later, SYS is 150.
+    assert_eq!(bus.exchange(&write_frame(STATION, CGAI, 1.5_f32.to_bits())), written(CGAI));
+    assert_eq!(bus.exchange(&read_frame(STATION, CGAI)), value([0x3f, 0xc0]));
+    bus.hand_in(READING);
+    assert_eq!(bus.exchange(&read_frame(STATION, SYS)), HUNDRED);
+    assert_eq!(bus.exchange(&write_frame(STATION, APPLY, 0)), written(APPLY));
+    assert_eq!(bus.exchange(&read_frame(STATION, SYS)), HUNDRED);
+    bus.hand_in(READING);
+    assert_eq!(bus.exchange(&read_frame(STATION, SYS)), value([0x43, 0x16]));
+    // CMIN at CMAX, 150, by a broadcast: 17, until RST takes it back.
+    assert_eq!(bus.exchange(&write_frame(0, CMIN, 150_f32.to_bits())), []);
+    assert_eq!(bus.exchange(&write_frame(STATION, APPLY, 0)), sealed(vec![STATION, 0x90, 3]));
+    assert_eq!(bus.exchange(&write_frame(STATION, RST, 0)), written(RST));
+    assert_eq!(bus.exchange(&read_frame(STATION, CMIN)), value([0xc3, 0x16]));
+    assert_eq!(bus.exchange(&write_frame(STATION, APPLY, 0)), written(APPLY));
 }
 
 #[test]

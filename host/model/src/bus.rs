@@ -1,7 +1,9 @@
 //! The bus: Modbus RTU frames and their replies.
 
-use crate::device::{float, REBOOT};
-use crate::{number, Device, Refusal, Result};
+use crate::device::REBOOT;
+use crate::panel::Figure;
+use crate::value::{self, float, scaled};
+use crate::{number, sheet, Device, Figures, Refusal, Result};
 
 const READ: u8 = 3;
 const WRITE: u8 = 16;
@@ -21,6 +23,10 @@ enum Register {
     Sysn,
     Peak,
     Trof,
+    /// A figure of the waiting copy.
+    Figure(Figure),
+    /// Our own register 99: a write puts the copy in force.
+    Apply,
     Rst,
     Snap,
     PeakReset,
@@ -28,6 +34,7 @@ enum Register {
 
 impl Register {
     /// By wire address, twice the register number.
+    #[inline(always)] // joined with what is done at the register
     fn at(address: u16) -> Result<Register> {
         if address & 1 == 1 {
             return Err(Refusal::Address);
@@ -45,10 +52,11 @@ impl Register {
             23 => Register::Sysn,
             24 => Register::Peak,
             25 => Register::Trof,
+            99 => Register::Apply,
             100 => Register::Rst,
             103 => Register::Snap,
             104 => Register::PeakReset,
-            _ => return Err(Refusal::Address),
+            figure => Register::Figure(Figure::at(figure).ok_or(Refusal::Address)?),
         })
     }
 }
@@ -125,15 +133,19 @@ impl Device {
             Register::Sysn => float(self.snapshot.ok_or(Refusal::NoSnapshot)?),
             Register::Peak => float(self.reading()?.peak),
             Register::Trof => float(self.reading()?.trof),
-            Register::Rst | Register::Snap | Register::PeakReset => 0.0,
+            Register::Figure(figure) => scaled(figure.read(&self.copy), figure.range().scale),
+            Register::Apply | Register::Rst | Register::Snap | Register::PeakReset => 0.0,
         })
     }
 
     fn write(&mut self, register: Register, value: f32) -> Result<()> {
         match register {
-            Register::Sz => self.figures.sz = steps(value)?,
-            Register::Flag => self.flag &= whole(value)?,
+            Register::Sz => self.figures.sz = value::SZ.count(value)?,
+            Register::Flag => self.flag &= value::FLAG.count(value)? as u16,
+            Register::Figure(figure) => figure.write(&mut self.copy, figure.range().count(value)?),
+            Register::Apply => self.figures = self.offered()?,
             Register::Rst => {
+                self.copy = self.figures;
                 self.last = None;
                 self.snapshot = None;
                 self.flag = REBOOT;
@@ -148,33 +160,11 @@ impl Device {
         }
         Ok(())
     }
-}
 
-/// A float within +-32,000 in steps, halves upwards, exactly.
-pub fn steps(value: f32) -> Result<i64> {
-    if !(-32_000.0..=32_000.0).contains(&value) {
-        return Err(Refusal::Value);
-    }
-    let bits = value.to_bits();
-    let exponent = (bits >> 23 & 0xff) as i32;
-    let fraction = i64::from(bits & 0x7f_ffff);
-    let magnitude = if exponent == 0 { fraction } else { fraction | 0x80_0000 };
-    let signed = if value < 0.0 { -magnitude } else { magnitude };
-    // The value is signed x 2^(exponent - 150); in steps 2^16 times that.
-    Ok(match exponent - 134 {
-        up @ 0.. => signed << up,
-        down @ -26..=-1 => (signed + (1 << (-down - 1))) >> -down,
-        _ => 0, // less than half a step
-    })
-}
-
-/// A whole number from 0 to 65,535: exactly a float that a u16 gives back (NaN equals nothing).
-pub fn whole(value: f32) -> Result<u16> {
-    let whole = value as u16;
-    if f32::from(whole) == value {
-        Ok(whole)
-    } else {
-        Err(Refusal::Value)
+    /// The copy as figures that come into force, "if a sheet with these figures would be accepted"; SZ stays as it is.
+    fn offered(&self) -> Result<Figures> {
+        let figures = Figures { sz: self.figures.sz, ..self.copy };
+        sheet::read_back(&figures).map_err(|_| Refusal::UnfitCopy)
     }
 }
 

@@ -1,4 +1,4 @@
-//! The load cell converter of paper 01 in plain Rust, written from the paper alone.
+//! The load cell converter of paper 01, with Change 1 of paper 02, in plain Rust, written from the papers alone.
 //!
 //! Whole numbers are steps (1/65,536 of a unit) and gains (1/2^28) in `i64`; the widest product,
 //! (CELL - SOFS) x SGAI, is at most 4,259,840,000 x 2^31, which fits. Nothing here uses the heap.
@@ -6,13 +6,15 @@
 pub mod bench;
 mod bus;
 mod device;
+pub mod panel;
 pub mod sheet;
+pub mod value;
 
 pub use bus::crc16;
 pub use device::{Device, Reading};
 pub use sheet::Figures;
 
-/// Why a call was turned down, by the paper's numbers.
+/// Why a call was turned down, by the papers' numbers.
 #[derive(Clone, Copy, Debug, PartialEq, Eq)]
 #[repr(u8)]
 pub enum Refusal {
@@ -32,6 +34,7 @@ pub enum Refusal {
     Function = 14,
     Address = 15,
     Value = 16,
+    UnfitCopy = 17,
 }
 
 pub type Result<T> = core::result::Result<T, Refusal>;

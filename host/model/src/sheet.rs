@@ -165,6 +165,10 @@ struct Draft {
 }
 
 impl Draft {
+    fn sheet(&self) -> &[u8] {
+        &self.bytes[..self.length]
+    }
+
     fn count(&mut self, count: u8) {
         self.bytes[self.length] = count;
         self.length += 1;
@@ -178,9 +182,8 @@ impl Draft {
     }
 }
 
-/// Write a sheet and give its length. The draft is judged by the reader: it meets a wrong point
-/// count before any point behind it, and can only find the draft short behind a wrong count.
-pub fn write(f: &Figures, out: &mut [u8]) -> Result<usize> {
+/// The figures as a sheet, not yet judged; a point past its count is not looked at.
+fn draft(f: &Figures) -> Draft {
     let mut d = Draft { bytes: [0; LONGEST], length: 0 };
     d.count(4);
     d.figures(&[f.cofs, f.cgai, f.cmin, f.cmax]);
@@ -196,9 +199,20 @@ pub fn write(f: &Figures, out: &mut [u8]) -> Result<usize> {
     d.figures(&[f.sofs, f.sgai, f.smin, f.smax, f.sz]);
     d.count(2);
     d.figures(&[f.fflv, f.ffst]);
+    d
+}
 
-    let sheet = &d.bytes[..d.length];
+/// Write a sheet and give its length. The draft is judged by the reader: it meets a wrong point
+/// count before any point behind it, and can only find the draft short behind a wrong count.
+pub fn write(f: &Figures, out: &mut [u8]) -> Result<usize> {
+    let d = draft(f);
+    let sheet = d.sheet();
     read(sheet)?;
-    out.get_mut(..d.length).ok_or(Refusal::ShortBuffer)?.copy_from_slice(sheet);
-    Ok(d.length)
+    out.get_mut(..sheet.len()).ok_or(Refusal::ShortBuffer)?.copy_from_slice(sheet);
+    Ok(sheet.len())
+}
+
+/// The figures that a sheet with these figures gives: the same, with 0 in points past a count.
+pub fn read_back(f: &Figures) -> Result<Figures> {
+    read(draft(f).sheet())
 }

@@ -1,8 +1,10 @@
-//! The edges of paper 01.
+//! The edges of paper 01, and the rules of Change 1 of paper 02.
 
-use crate::bus::{crc16, steps, whole};
-use crate::device::{filter, float, interpolate, round_div, scale};
-use crate::sheet::{most, read, write, LinearityPoint, LONGEST};
+use crate::bus::crc16;
+use crate::device::{filter, interpolate, round_div, scale, REBOOT};
+use crate::panel::{Figure, ROWS};
+use crate::sheet::{most, read, write, LinearityPoint, TemperaturePoint, LONGEST};
+use crate::value::{float, magnitude, scaled, Range, FLAG, PARTS, STEPS, SZ, WHOLE};
 use crate::{bench, Device, Figures, Refusal};
 
 fn sheet(f: &Figures) -> Vec<u8> {
@@ -45,16 +47,59 @@ fn cell_range() {
 fn floats() {
     let bits = [6_553_600, 0, -1, 16_777_217].map(|n| float(n).to_bits());
     assert_eq!(bits, [0x42c8_0000, 0, 0xb780_0000, 0x4380_0000]);
+    let steps = |x| SZ.count(x).unwrap();
     let half = 2_f32.powi(-17);
-    assert_eq!([half, -half, -0.0, 3.0 * half, -3.0 * half].map(|x| steps(x).unwrap()), [1, 0, 0, 2, -1]);
-    assert_eq!([half.next_down(), (-half).next_down()].map(|x| steps(x).unwrap()), [0, -1]);
-    assert_eq!([f32::from_bits(1), -f32::from_bits(1)].map(|x| steps(x).unwrap()), [0, 0]);
-    assert_eq!([32_000.0, -32_000.0].map(|x| steps(x).unwrap()), [2_097_152_000, -2_097_152_000]);
-    assert!([32_000_f32.next_up(), f32::NAN, f32::INFINITY].iter().all(|x| steps(*x).is_err()));
-    assert_eq!([0.0, -0.0, 1.0, 65_535.0].map(|x| whole(x).unwrap()), [0, 0, 1, 65_535]);
+    assert_eq!([half, -half, -0.0, 3.0 * half, -3.0 * half].map(steps), [1, 0, 0, 2, -1]);
+    assert_eq!([half.next_down(), (-half).next_down()].map(steps), [0, -1]);
+    assert_eq!([f32::from_bits(1), -f32::from_bits(1)].map(steps), [0, 0]);
+    assert_eq!([32_000.0, -32_000.0].map(steps), [2_097_152_000, -2_097_152_000]);
+    assert!([32_000_f32.next_up(), f32::NAN, f32::INFINITY].iter().all(|x| SZ.count(*x).is_err()));
+    assert_eq!([0.0, -0.0, 1.0, 65_535.0].map(|x| FLAG.count(x).unwrap()), [0, 0, 1, 65_535]);
     for unfit in [-1.0, 0.5, 65_535_f32.next_up(), 65_536.0, f32::NAN, f32::INFINITY, -f32::from_bits(1)] {
-        assert!(whole(unfit).is_err());
+        assert!(FLAG.count(unfit).is_err());
     }
+}
+
+/// A float in counts by another way: an f64 holds it times 2^28, and the ends of the ranges, exactly.
+fn count_by_f64(range: Range, value: f32) -> Option<i64> {
+    let counts = f64::from(value) * f64::from(1_u32 << range.scale);
+    let fits = range.least as f64 <= counts && counts <= range.most as f64;
+    let whole = range.scale != WHOLE || counts.fract() == 0.0;
+    let up = i64::from(counts - counts.floor() >= 0.5);
+    (fits && whole).then(|| counts.floor() as i64 + up)
+}
+
+#[test]
+fn counts_of_every_scale() {
+    let ranges: Vec<Range> = ROWS.iter().map(|row| row.range).chain([SZ, FLAG]).collect();
+    for range in ranges {
+        let ends = [range.least, range.most, 0, 1, -1].map(|n| scaled(n, range.scale).to_bits());
+        let near = ends.iter().flat_map(|end| (0..9).map(move |n| (end + 4).wrapping_sub(n)));
+        let spread = (0..1 << 16).map(|n: u32| n.wrapping_mul(0x9e37_79b1));
+        let special = [0x7f80_0000, 0xff80_0000, 0x7fc0_0000, 1, 0x8000_0001, 0x8000_0000, 0x007f_ffff, 0x0080_0000];
+        for bits in near.chain(spread).chain(special) {
+            let value = f32::from_bits(bits);
+            assert_eq!(range.count(value).ok(), count_by_f64(range, value), "{bits:08x} {range:?}");
+        }
+    }
+}
+
+#[test]
+fn panel_values() {
+    // "before rounding beyond its range": these would round into it.
+    let ctg = magnitude(PARTS, most::CTG);
+    assert_eq!([0.1, -0.1].map(|x| ctg.count(x)), [Err(Refusal::Value); 2]);
+    assert_eq!(ctg.count(0.1_f32.next_down()), Ok(26_843_544));
+    let fflv = Range { scale: STEPS, least: 0, most: most::FFLV };
+    assert_eq!([-1e-45, -0.0, 600.0].map(|x| fflv.count(x)), [Err(Refusal::Value), Ok(0), Ok(most::FFLV)]);
+    assert_eq!(magnitude(PARTS, most::CGAI).count(64.0), Ok(1 << 34));
+    assert_eq!(magnitude(PARTS, most::CGAI).count(64_f32.next_up()), Err(Refusal::Value));
+    // Halves upwards, of a part.
+    let half = 2_f32.powi(-29);
+    assert_eq!([half, -half, 3.0 * half].map(|x| ctg.count(x).unwrap()), [1, 0, 2]);
+    // A gain of 35 bits goes out with one rounding, ties to even.
+    let gains = [1 << 34, (1 << 34) - 1, (1 << 25) + 1, (1 << 25) + 3, -1].map(|n| scaled(n, PARTS).to_bits());
+    assert_eq!(gains, [0x4280_0000, 0x4280_0000, 0x3e00_0000, 0x3e00_0001, 0xb180_0000]);
 }
 
 #[test]
@@ -121,4 +166,123 @@ fn bench_run() {
     assert_eq!(printed(&input), "SYS FLAG\n6553600 32768\n-9830400 32848\nrefused 9\n");
     assert_eq!(printed(&input[..180]), "SYS FLAG\nrefused 9\n");
     assert_eq!(printed(&input[..174]), "refused 1\n");
+}
+
+const STATION: u8 = 52;
+
+/// The number and the value of a read; the number of a write.
+fn ask(d: &mut Device, register: u16) -> (u8, f32) {
+    let mut reply = [0; 9];
+    let (number, _) = d.answer(&sealed(&[STATION, 3, 0, 2 * register as u8, 0, 2]), &mut reply);
+    (number, f32::from_bits(u32::from_be_bytes([reply[5], reply[6], reply[3], reply[4]])))
+}
+
+fn tell(d: &mut Device, station: u8, register: u16, value: f32) -> (u8, usize, [u8; 9]) {
+    let [b3, b2, b1, b0] = value.to_bits().to_be_bytes();
+    let mut reply = [0; 9];
+    let frame = sealed(&[station, 16, 0, 2 * register as u8, 0, 2, 4, b1, b0, b3, b2]);
+    let (number, length) = d.answer(&frame, &mut reply);
+    (number, length, reply)
+}
+
+fn put(d: &mut Device, register: u16, value: f32) -> u8 {
+    tell(d, STATION, register, value).0
+}
+
+fn sealed(frame: &[u8]) -> Vec<u8> {
+    [frame, &crc16(frame).to_le_bytes()].concat()
+}
+
+fn made(f: &Figures) -> Device {
+    Device::new(&sheet(f), STATION).unwrap()
+}
+
+/// Each register of a figure writes and shows its own figure alone.
+#[test]
+fn panel_registers() {
+    let numbers: Vec<u16> = ROWS.iter().flat_map(|row| row.first..=row.last).collect();
+    assert_eq!(numbers.len(), 41);
+    let mut d = made(&Figures::standard());
+    let start = d;
+    for (&register, n) in numbers.iter().zip(1..) {
+        let figure = Figure::at(register).unwrap();
+        let value = match register {
+            50 | 110 => 5.0,
+            93 => 93.0,
+            _ => n as f32 / 512.0,
+        };
+        let before = numbers.iter().map(|&r| ask(&mut d, r)).collect::<Vec<_>>();
+        assert_eq!(put(&mut d, register, value), 0, "{register}");
+        for (&other, old) in numbers.iter().zip(before) {
+            assert_eq!(ask(&mut d, other), if other == register { (0, value) } else { old }, "{register} {other}");
+        }
+        assert_eq!(scaled(figure.read(&d.copy), figure.range().scale), value);
+    }
+    // CTG stands before CTO here, in the sheet behind it.
+    let row = |register| numbers.iter().position(|&r| r == register).unwrap() as i64 + 1;
+    let point = d.copy.temperature[4];
+    let due = TemperaturePoint { ct: row(115) * 128, cto: row(125) * 128, ctg: row(120) << 19 };
+    assert_eq!((point, d.copy.linearity[6].clk), (due, row(67) * 128));
+    // Nothing but the copy has moved, and RST sets it back.
+    assert_eq!(Device { copy: start.copy, ..d }, start);
+    assert_eq!((put(&mut d, 100, 0.0), d), (0, start));
+    for unlisted in [39, 42, 43, 46, 49, 58, 60, 68, 69, 72, 73, 76, 91, 94, 98, 101, 109, 126] {
+        assert_eq!(ask(&mut d, unlisted).0, 15, "{unlisted}");
+    }
+}
+
+/// "puts the copy in force from the next reading": no reading, PEAK, snapshot, held value or FLAG is touched.
+#[test]
+fn panel_in_force() {
+    let mut d = made(&Figures::standard());
+    // Without a reading, and with a value that is none.
+    assert_eq!((put(&mut d, 99, f32::NAN), ask(&mut d, 99)), (0, (0, 0.0)));
+    d.take(6_553_600, 0, 0).unwrap();
+    for (register, value) in [(22, 1.0), (41, 20.0), (40, 1.5), (50, 2.0), (53, 7.0), (92, 300.0), (93, 2.0)] {
+        assert_eq!(put(&mut d, register, value), 0);
+    }
+    assert_eq!(d.figures, Figures { sz: 65_536, ..Figures::standard() });
+    let before = d;
+    assert_eq!(put(&mut d, 99, 0.0), 0);
+    let due = Figures { cofs: 20 << 16, cgai: 3 << 27, sz: 1 << 16, fflv: 300 << 16, ffst: 2, ..Figures::standard() };
+    assert_eq!(d, Device { figures: due, ..before });
+    // A point past the count stays in the copy, and is 0 in force.
+    assert_eq!((ask(&mut d, 53), d.figures.linearity[2].clx), ((0, 7.0), 0));
+    // The filter, now on, goes on from the held value: 100, then 60, (60 - 20) x 1.5 - 1.
+    d.take(20 << 16, 0, 0).unwrap();
+    assert_eq!((ask(&mut d, 10), ask(&mut d, 16), ask(&mut d, 24)), ((0, 59.0), (0, 60.0), (0, 100.0)));
+    // RST: the figures in force since the last such write, and 0 past the count.
+    assert_eq!(put(&mut d, 100, 0.0), 0);
+    assert_eq!(d, Device { station: STATION, figures: due, copy: due, flag: REBOOT, last: None, snapshot: None });
+}
+
+/// 17 where a sheet with the copy's figures would be refused; nothing then changes.
+#[test]
+fn panel_unfit_copy() {
+    let unfit = [
+        (44, 150.0),                 // CMIN not below CMAX
+        (75, -150.0),                // SMAX not above SMIN
+        (112, 0.0),                  // CT does not rise
+        (110, 3.0),                  // nor to the third point, which is 0
+        (51, 100.0),                 // CLX does not rise
+        (62, 25.0 + 1.0 / 65_536.0), // CLK too steep by a step
+    ];
+    for (register, value) in unfit {
+        let mut d = made(&Figures::standard());
+        assert_eq!(put(&mut d, register, value), 0);
+        let before = d;
+        let (number, length, reply) = tell(&mut d, STATION, 99, 1.0);
+        assert_eq!((number, &reply[..length]), (17, &sealed(&[STATION, 0x90, 3])[..]), "{register}");
+        assert_eq!(tell(&mut d, 0, 99, 1.0), (17, 0, [0; 9]));
+        assert_eq!(d, before);
+    }
+    let mut d = made(&Figures::standard());
+    assert_eq!((put(&mut d, 62, 25.0), put(&mut d, 99, 0.0)), (0, 0));
+    // A broadcast to the copy, and of 99, acts in silence.
+    assert_eq!((tell(&mut d, 0, 41, 1.5), tell(&mut d, 0, 99, 0.0)), ((0, 0, [0; 9]), (0, 0, [0; 9])));
+    assert_eq!(d.figures.cofs, 98_304);
+    // A count that is none is refused when it is written.
+    for (register, value) in [(50, 1.0), (50, 8.0), (50, 2.5), (110, 6.0), (110, f32::NAN), (93, 0.5), (93, 1001.0)] {
+        assert_eq!(put(&mut d, register, value), 16, "{register} {value}");
+    }
 }

@@ -1,12 +1,12 @@
 //! compare CALLS SEED: the same generated calls on the model and on the archive.
 //!
 //! Compared: numbers, lengths, every byte of and around the lent buffer, report bits, the whole
-//! record in steps, a read of each register after each call, and that a refused call keeps the
-//! record (a refused making leaves zeros).
+//! record in steps, the waiting copy too, a read of each register of 01 and of some of the panel's
+//! after each call, and that a refused call keeps the record (a refused making leaves zeros).
 
-use host::generate::{self, Call, Rng};
+use host::generate::{Call, Calls};
 use host::tool::{run, Failure};
-use host::{read_frame, Converter, Other, REGISTERS, WITH_ARCHIVE};
+use host::{panel_registers, read_frame, Converter, Other, APPLY, REGISTERS, WITH_ARCHIVE};
 use std::process::ExitCode;
 
 /// Bytes kept on either side of a lent buffer.
@@ -83,28 +83,64 @@ fn main() -> ExitCode {
     })
 }
 
+/// How many registers of Change 1 are read after a call, in turn; all of 01's are.
+const PANEL_READS: usize = 7;
+
+/// Frames that read each of these registers, in order.
+fn reads(station: u8, registers: impl Iterator<Item = u16>) -> Vec<Vec<u8>> {
+    registers.map(|register| read_frame(station, 2 * register)).collect()
+}
+
+/// What the calls were.
+struct Seen {
+    numbers: [u64; 256],
+    applied: u64,
+    flags: u16,
+    /// Readings without start or RST: so far, and the most.
+    readings: u64,
+    longest: u64,
+}
+
+impl Seen {
+    fn add(&mut self, call: &Call, number: u8, device: &model::Device) {
+        self.numbers[usize::from(number)] += 1;
+        self.flags |= device.flag;
+        let accepted = number == 0 && matches!(call, Call::Reading(..));
+        self.readings = if device.last.is_none() { 0 } else { self.readings + u64::from(accepted) };
+        self.longest = self.longest.max(self.readings);
+        let to_apply = |frame: &[u8]| frame[1] == 16 && frame[2..4] == (2 * APPLY).to_be_bytes();
+        self.applied += u64::from(number == 0 && matches!(call, Call::Frame(frame, _) if to_apply(frame)));
+    }
+
+    fn print(&self) {
+        let by_number: Vec<String> = (0..=17).map(|n| format!("{n}: {}", self.numbers[n])).collect();
+        println!("calls by number  {}", by_number.join(", "));
+        println!("the copy put in force {} times", self.applied);
+        println!("FLAG bits seen {}; longest run of readings without start or RST {}", self.flags, self.longest);
+    }
+}
+
 /// Whether no call differs.
 fn compare(calls: u64, seed: u64) -> bool {
-    let (mut rng, mut differences) = (Rng::new(seed), 0);
+    let (mut generator, mut differences) = (Calls::new(seed), 0);
     let (mut model, mut other) = (model::Device::default(), Other::default());
-    let mut reads: Vec<Vec<u8>> = Vec::new();
-    let (mut numbers, mut flags, mut longest, mut readings) = ([0_u64; 256], 0, 0, 0_u64);
+    let mut seen = Seen { numbers: [0; 256], applied: 0, flags: 0, readings: 0, longest: 0 };
+    let (mut base, mut panel) = (Vec::new(), Vec::new());
 
     for i in 0..calls {
-        let call = if model.station == 0 {
-            Call::Make(generate::sheet(&generate::figures(&mut rng)), rng.range(1, 247) as u8)
-        } else {
-            generate::call(&mut rng, &model, i / 4_096 % 4 == 3)
-        };
-        let fill = rng.bits() as u8;
+        let (call, fill) = generator.next(&model, i / 4_096 % 4 == 3);
         let expected = perform(&mut model, &call, fill);
         let found = perform(&mut other, &call, fill);
         if matches!(call, Call::Make(..)) {
-            reads = REGISTERS.map(|register| read_frame(model.station, 2 * register)).to_vec();
+            base = reads(model.station, REGISTERS.into_iter());
+            panel = reads(model.station, panel_registers());
         }
+        panel.rotate_left(PANEL_READS);
         let mut differs = expected != found || !found.kept || other.state() != model;
-        differs |= registers(&mut model, &reads) != registers(&mut other, &reads) || other.state() != model;
-        if differs {
+        for frames in [&base[..], &panel[..PANEL_READS]] {
+            differs |= registers(&mut model, frames) != registers(&mut other, frames);
+        }
+        if differs || other.state() != model {
             differences += 1;
             if differences <= 5 {
                 println!("DIFFERENCE at call {i}: {}", describe(&call));
@@ -114,17 +150,12 @@ fn compare(calls: u64, seed: u64) -> bool {
             // The model is the reference: go on with a new device.
             (model, other) = Default::default();
         }
-        numbers[usize::from(expected.number)] += 1;
-        flags |= model.flag;
-        let accepted = expected.number == 0 && matches!(call, Call::Reading(..));
-        readings = if model.last.is_none() { 0 } else { readings + u64::from(accepted) };
-        longest = longest.max(readings);
+        seen.add(&call, expected.number, &model);
     }
 
-    let by_number: Vec<String> = (0..17).map(|n| format!("{n}: {}", numbers[n])).collect();
-    println!("calls by number  {}", by_number.join(", "));
-    println!("FLAG bits seen {flags}; longest run of readings without start or RST {longest}");
+    seen.print();
     let pair = if WITH_ARCHIVE { "model and archive" } else { "model and itself (no archive linked)" };
-    println!("{pair}: {calls} calls, each with {} register reads, {differences} differences", REGISTERS.len());
+    let reads = format!("{} registers of 01 and {PANEL_READS} of {} of Change 1", REGISTERS.len(), panel.len());
+    println!("{pair}: {calls} calls, each with reads of {reads}, {differences} differences");
     differences == 0
 }

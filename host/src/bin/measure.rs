@@ -3,18 +3,26 @@
 
 use host::generate::{sheet, Rng};
 use host::tool::{run, Failure};
-use host::{read_frame, write_frame, Converter, Other, WITH_ARCHIVE};
+use host::{read_frame, write_frame, Converter, Other, APPLY, RST, WITH_ARCHIVE};
+use model::panel::{Row, ROWS};
 use model::sheet::{most, LinearityPoint, TemperaturePoint};
+use model::value::{scaled, Range, WHOLE};
 use model::Figures;
 use std::hint::black_box;
 use std::{mem::size_of, process::ExitCode, time::Instant};
 
-const KINDS: [(&str, &str); 4] = [
+const KINDS: [(&str, &str); 8] = [
     ("default", "reading, default sheet"),
     ("full", "reading, full tables, filter on"),
     ("read", "read frame"),
     ("write", "write frame (SZ)"),
+    ("figure", "read frame (a figure of the copy)"),
+    ("panel", "write frame (a figure of the copy)"),
+    ("apply", "write frame (99, full tables in force)"),
+    ("reset", "write frame (RST)"),
 ];
+const USAGE: &str =
+    "measure [default|full|read|write|figure|panel|apply|reset N [model|archive]] (archive: only if linked)";
 const STATION: u8 = 52;
 
 /// Five and seven points and a filter that smooths every reading.
@@ -31,32 +39,47 @@ fn full() -> Figures {
     f
 }
 
+/// A write of a figure of the copy that is fit: its count from half of the range on, or a small one.
+fn figure_write(row: &Row, i: u16) -> Vec<u8> {
+    let Range { scale, least, most } = row.range;
+    let count = if scale == WHOLE { least + i64::from(i) % (most - least) } else { most / 2 + i64::from(i) };
+    write_frame(STATION, 2 * row.first, scaled(count, scale).to_bits())
+}
+
+/// The i-th frame of a kind; all are accepted.
+fn frame(kind: &str, i: u16) -> Vec<u8> {
+    let row = &ROWS[usize::from(i) % ROWS.len()];
+    match kind {
+        "write" => write_frame(STATION, 44, (f32::from(i) / 7.0 - 70.0).to_bits()),
+        "figure" => read_frame(STATION, 2 * row.last),
+        "panel" => figure_write(row, i),
+        "apply" => write_frame(STATION, 2 * APPLY, 0),
+        "reset" => write_frame(STATION, 2 * RST, 0),
+        _ => read_frame(STATION, 2 * [6, 10, 11, 13, 14, 22, 24, 25][usize::from(i % 8)]),
+    }
+}
+
 /// The seconds that n calls of a kind took.
 fn calls<C: Converter>(kind: &str, n: usize) -> f64 {
     let mut rng = Rng::new(1);
-    let figures = if kind == "full" { full() } else { Figures::standard() };
+    let figures = if matches!(kind, "full" | "apply") { full() } else { Figures::standard() };
     let mut device = C::default();
     assert_eq!(device.make(&sheet(&figures), STATION), 0);
     let readings: Vec<(i64, i64)> =
         (0..1_024).map(|_| (rng.range(-9_000_000, 9_000_000), rng.range(-1_310_720, 3_932_160))).collect();
-    let frames: Vec<Vec<u8>> = (0..1_024_u16)
-        .map(|i| match kind {
-            "write" => write_frame(STATION, 44, (f32::from(i) / 7.0 - 70.0).to_bits()),
-            _ => read_frame(STATION, 2 * [6, 10, 11, 13, 14, 22, 24, 25][usize::from(i % 8)]),
-        })
-        .collect();
+    let frames: Vec<Vec<u8>> = (0..1_024).map(|i| frame(kind, i)).collect();
     assert_eq!(device.reading(6_553_600, 1_310_720, 0), 0);
     let mut reply = [0; 9];
     let mut refused = 0;
     let start = Instant::now();
-    if matches!(kind, "read" | "write") {
+    if matches!(kind, "default" | "full") {
+        for &(elec, temp) in readings.iter().cycle().take(n) {
+            refused += u32::from(device.reading(black_box(elec), black_box(temp), 0));
+        }
+    } else {
         for frame in frames.iter().cycle().take(n) {
             refused += u32::from(device.frame(black_box(frame), &mut reply).0);
             black_box(&reply);
-        }
-    } else {
-        for &(elec, temp) in readings.iter().cycle().take(n) {
-            refused += u32::from(device.reading(black_box(elec), black_box(temp), 0));
         }
     }
     let seconds = start.elapsed().as_secs_f64();
@@ -112,7 +135,7 @@ fn arguments(words: &[String]) -> Option<(&str, usize, bool)> {
 }
 
 fn main() -> ExitCode {
-    run("measure [default|full|read|write N [model|archive]] (archive: only if linked)", |words| {
+    run(USAGE, |words| {
         if words.is_empty() {
             table();
             return Ok(true);
