@@ -1,6 +1,6 @@
 /* Make a device of the default sheet, take readings, and answer frames: what a board does all day; then load bad sheets
- * while it runs, which disturbs nothing. In the last report the four values differ, so that a header with their order
- * changed does not pass. */
+ * while it runs, which disturbs nothing; then calibrate it from the panel. In one report the four values differ, so
+ * that a header with their order changed does not pass. */
 #include "converter.h"
 #include <stdio.h>
 #include <string.h>
@@ -53,6 +53,20 @@ static converter_answered read_register(converter_device *device, unsigned addre
     return converter_frame(device, frame, sealed(frame, 6), reply, room);
 }
 
+/* A write: function 16, wire address, quantity 2, byte count 4, and the float in the bytes 15:8, 7:0, 31:24, 23:16. */
+static converter_answered write_register(converter_device *device, unsigned address, float value, uint8_t *reply,
+                                         size_t room)
+{
+    uint8_t frame[13] = {52, 16, (uint8_t)(address >> 8), (uint8_t)address, 0, 2, 4};
+    uint32_t bits;
+    memcpy(&bits, &value, sizeof bits);
+    frame[7] = (uint8_t)(bits >> 8);
+    frame[8] = (uint8_t)bits;
+    frame[9] = (uint8_t)(bits >> 24);
+    frame[10] = (uint8_t)(bits >> 16);
+    return converter_frame(device, frame, sealed(frame, 11), reply, room);
+}
+
 static void print_reply(const char *what, converter_answered answered, const uint8_t *reply)
 {
     printf("%s: %u,", what, answered.number);
@@ -67,20 +81,16 @@ static void print_report(converter_reported reported)
            reported.report.peak, reported.report.trof, reported.report.cell);
 }
 
-/* All that a device answers: a read of each register, number and bytes, and its report. */
-enum { REGISTERS = 16 };
-typedef struct { uint8_t number[REGISTERS], reply[REGISTERS][9]; converter_reported report; } answers;
+/* All that a device answers: a read of each number up to 127, among which are all registers, number and bytes, and its
+ * report. */
+enum { NUMBERS = 128 };
+typedef struct { uint8_t number[NUMBERS], reply[NUMBERS][9]; converter_reported report; } answers;
 
 static void ask_all(converter_device *device, answers *all)
 {
-    static const uint8_t registers[REGISTERS] = {
-        CONVERTER_REGISTER_STAT, CONVERTER_REGISTER_SOUT, CONVERTER_REGISTER_SYS,  CONVERTER_REGISTER_TEMP,
-        CONVERTER_REGISTER_SRAW, CONVERTER_REGISTER_CELL, CONVERTER_REGISTER_FLAG, CONVERTER_REGISTER_CRAW,
-        CONVERTER_REGISTER_ELEC, CONVERTER_REGISTER_SZ,   CONVERTER_REGISTER_SYSN, CONVERTER_REGISTER_PEAK,
-        CONVERTER_REGISTER_TROF, CONVERTER_REGISTER_RST,  CONVERTER_REGISTER_SNAP, CONVERTER_REGISTER_PEAK_RESET};
     memset(all, 0, sizeof *all);
-    for (size_t i = 0; i < REGISTERS; i++)
-        all->number[i] = read_register(device, registers[i], all->reply[i], sizeof all->reply[i]).number;
+    for (unsigned i = 0; i < NUMBERS; i++)
+        all->number[i] = read_register(device, 2 * i, all->reply[i], sizeof all->reply[i]).number;
     all->report = converter_report(device);
 }
 
@@ -108,6 +118,37 @@ static void load_bad(const char *what, converter_device *device, const uint8_t *
     uint8_t number = load(device, sheet, length, station);
     ask_all(device, &after);
     printf("%s: %u, the device answers %s\n", what, number, same(&before, &after) ? "as before" : "otherwise");
+}
+
+/* Change 1 of paper 02. The device has CGAI 2, and the cell gives 50 %, so that SYS is 100. */
+static void calibrate_from_panel(converter_device *device)
+{
+    uint8_t reply[16];
+    answers before, after;
+
+    /* CGAI 1.5 goes to the waiting copy, and a read shows it there; a reading still goes by the figures in force. */
+    print_reply("write CGAI", write_register(device, CONVERTER_REGISTER_CGAI, 1.5f, reply, sizeof reply), reply);
+    print_reply("read CGAI", read_register(device, CONVERTER_REGISTER_CGAI, reply, sizeof reply), reply);
+    printf("reading: %u\n", converter_reading(device, 3276800, 1310720, 0));
+    print_report(converter_report(device));
+
+    /* Register 99 puts the copy in force, from the next reading; PEAK is of the readings before. */
+    print_reply("write APPLY", write_register(device, CONVERTER_REGISTER_APPLY, 0.0f, reply, sizeof reply), reply);
+    printf("reading: %u\n", converter_reading(device, 3276800, 1310720, 0));
+    print_report(converter_report(device));
+
+    /* CMIN 200 is above CMAX, 150. The copy takes it; in force it does not come, and nothing changes. */
+    print_reply("write CMIN", write_register(device, CONVERTER_REGISTER_CMIN, 200.0f, reply, sizeof reply), reply);
+    ask_all(device, &before);
+    print_reply("write APPLY", write_register(device, CONVERTER_REGISTER_APPLY, 0.0f, reply, sizeof reply), reply);
+    ask_all(device, &after);
+    printf("the device answers %s\n", same(&before, &after) ? "as before" : "otherwise");
+    print_reply("read CMIN", read_register(device, CONVERTER_REGISTER_CMIN, reply, sizeof reply), reply);
+
+    /* RST brings the copy back to the figures in force: CMIN -150, CGAI 1.5. */
+    print_reply("write RST", write_register(device, CONVERTER_REGISTER_RST, 0.0f, reply, sizeof reply), reply);
+    print_reply("read CMIN", read_register(device, CONVERTER_REGISTER_CMIN, reply, sizeof reply), reply);
+    print_reply("read CGAI", read_register(device, CONVERTER_REGISTER_CGAI, reply, sizeof reply), reply);
 }
 
 int main(void)
@@ -149,5 +190,7 @@ int main(void)
     print_report(converter_report(&device));
     printf("reading: %u\n", converter_reading(&device, 3276800, 1310720, 0));
     print_report(converter_report(&device));
+
+    calibrate_from_panel(&device);
     return 0;
 }

@@ -1,4 +1,5 @@
-/* The converter of a load cell: readings, calibration sheet and Modbus RTU (paper 01), proved in Rattle.
+/* The converter of a load cell: readings, calibration sheet and Modbus RTU (paper 01), and calibration over the bus
+ * (paper 02, Change 1), proved in Rattle.
  *
  * Link the archive libboard.a (`rt staticlib board`, x86-64). There is no heap and no global state: everything that a
  * device is stands in one record that the caller keeps, for as long as it likes and where it likes. A call runs to its
@@ -9,17 +10,16 @@
  * - Record, frame and reply buffer of a call do not overlap, and a record is used by one call at a time.
  * - A record that is handed to converter_reading, converter_report or converter_frame is the device of an accepted
  *   converter_make, or a copy of such a record, changed by these calls alone.
- * - Floats are in the default mode of IEEE 754. Round to nearest: in another mode a sent value beyond +-256 may differ
- *   in its last bit. Subnormals are not taken as zeros: one written to FLAG is 16, as a zero it would clear every bit.
- *   No traps: a call may raise inexact and denormal.
+ * - Floats are in the default mode of IEEE 754. Round to nearest: in another mode a sent value beyond +-256, or a gain
+ *   or gain adjustment beyond +-1/16, may differ in its last bit. No traps: a call may raise inexact and denormal.
  * Nothing else is asked: every byte and every number is taken, and what does not fit is refused with a number.
  *
  * Who finds the frames: the caller. On the line a frame ends with a silence of 3.5 characters (t3.5); hand over what
  * stood between two silences, whole, and send the reply, if there is one, after the next.
  *
  * Symbols that the archive needs: memset. (The caller's compiler may ask for memcpy, to assign a record.)
- * Bytes of stack, at most, return address and red zone included: converter_make 1024, and what memset takes;
- * converter_reading 128; converter_report 64; converter_frame 256. */
+ * Bytes of stack, at most, return address and red zone included: converter_make 1536, and what memset takes;
+ * converter_reading 128; converter_report 64; converter_frame 1536. */
 #ifndef CONVERTER_H
 #define CONVERTER_H
 
@@ -34,7 +34,7 @@ extern "C" {
 #endif
 
 /* Another MAJOR: code that was compiled with the older header must not be linked with this archive. */
-#define CONVERTER_VERSION_MAJOR 1
+#define CONVERTER_VERSION_MAJOR 2
 #define CONVERTER_VERSION_MINOR 0
 #define CONVERTER_VERSION_PATCH 0
 
@@ -55,10 +55,13 @@ enum {
     CONVERTER_NOT_FOR_US = 13,   /* too short or long, wrong checksum, other station, or a broadcast read */
     CONVERTER_FUNCTION = 14,     /* not 3 or 16 */
     CONVERTER_ADDRESS = 15,      /* odd, or not twice a listed register */
-    CONVERTER_VALUE = 16         /* wrong length, quantity or byte count, read-only, or an unfit value */
+    CONVERTER_VALUE = 16,        /* wrong length, quantity or byte count, read-only, or an unfit value */
+    CONVERTER_UNFIT_COPY = 17    /* a sheet with the figures of the waiting copy would be refused */
 };
 
-/* Registers, as wire addresses: what stands in a frame, twice 004's register number. */
+/* Registers, as wire addresses: what stands in a frame, twice 004's register number. Of a table's column it is the
+ * first point's, and the next point's is 2 further. CGAI to FFST and CTN to CTO are the figures of the waiting copy;
+ * APPLY is "our own register 99", which puts the copy in force. */
 enum {
     CONVERTER_REGISTER_STAT = 2 * 6,
     CONVERTER_REGISTER_SOUT = 2 * 9,
@@ -73,9 +76,27 @@ enum {
     CONVERTER_REGISTER_SYSN = 2 * 23,
     CONVERTER_REGISTER_PEAK = 2 * 24,
     CONVERTER_REGISTER_TROF = 2 * 25,
-    CONVERTER_REGISTER_RST = 2 * 100,       /* takes a write */
-    CONVERTER_REGISTER_SNAP = 2 * 103,      /* takes a write */
-    CONVERTER_REGISTER_PEAK_RESET = 2 * 104 /* takes a write */
+    CONVERTER_REGISTER_CGAI = 2 * 40,        /* takes a write */
+    CONVERTER_REGISTER_COFS = 2 * 41,        /* takes a write */
+    CONVERTER_REGISTER_CMIN = 2 * 44,        /* takes a write */
+    CONVERTER_REGISTER_CMAX = 2 * 45,        /* takes a write */
+    CONVERTER_REGISTER_CLN = 2 * 50,         /* takes a write */
+    CONVERTER_REGISTER_CLX = 2 * 51,         /* 7 points; takes a write */
+    CONVERTER_REGISTER_CLK = 2 * 61,         /* 7 points; takes a write */
+    CONVERTER_REGISTER_SGAI = 2 * 70,        /* takes a write */
+    CONVERTER_REGISTER_SOFS = 2 * 71,        /* takes a write */
+    CONVERTER_REGISTER_SMIN = 2 * 74,        /* takes a write */
+    CONVERTER_REGISTER_SMAX = 2 * 75,        /* takes a write */
+    CONVERTER_REGISTER_FFLV = 2 * 92,        /* takes a write */
+    CONVERTER_REGISTER_FFST = 2 * 93,        /* takes a write */
+    CONVERTER_REGISTER_APPLY = 2 * 99,       /* takes a write */
+    CONVERTER_REGISTER_RST = 2 * 100,        /* takes a write */
+    CONVERTER_REGISTER_SNAP = 2 * 103,       /* takes a write */
+    CONVERTER_REGISTER_PEAK_RESET = 2 * 104, /* takes a write */
+    CONVERTER_REGISTER_CTN = 2 * 110,        /* takes a write */
+    CONVERTER_REGISTER_CT = 2 * 111,         /* 5 points; takes a write */
+    CONVERTER_REGISTER_CTG = 2 * 116,        /* 5 points; takes a write */
+    CONVERTER_REGISTER_CTO = 2 * 121         /* 5 points; takes a write */
 };
 
 /* Bits of STAT and FLAG. */
@@ -93,7 +114,12 @@ enum {
 };
 
 /* ---- The record. Its fields are for the library; a debugger may look at them. Counts are steps of 1/65,536 of a
- * unit, gains of 1/268,435,456. */
+ * unit, gains of 1/268,435,456.
+ *
+ * The figures stand twice: readings go by `figures`, those in force; a write to a figure's register goes to `copy`,
+ * the waiting copy, and a read of that register shows it. A write to APPLY puts the copy in force from the next
+ * reading, or is refused with 17; it leaves SZ, the copy and `state` as they are. RST sets the copy back to the figures
+ * in force. */
 
 typedef struct { int64_t cofs, cgai, cmin, cmax; } converter_cell;
 typedef struct { int64_t ct, cto, ctg; } converter_temperature_point;
@@ -111,7 +137,7 @@ typedef struct {
     converter_filter filter;
 } converter_calibration;
 
-typedef struct { converter_calibration figures; uint8_t station; } converter_setup;
+typedef struct { converter_calibration figures, copy; uint8_t station; } converter_setup;
 typedef struct { int64_t craw, cell, sraw, sys; uint16_t stat; } converter_values;
 typedef struct { bool any; int64_t elec, temp; converter_values values; int64_t peak, trof; } converter_readings;
 typedef struct { bool taken; int64_t sysn; } converter_snapshot;
@@ -145,10 +171,10 @@ uint8_t converter_reading(converter_device *device, int64_t elec, int64_t temp, 
 /* SYS, PEAK, TROF and CELL. Answers 0; or 10. The record is as it was. */
 converter_reported converter_report(const converter_device *device);
 
-/* A bus frame of `length` bytes, checksum included, and a buffer for the reply. Answers 0; or 12 to 16, then 10 or
- * 11, and the record is as it was. A reply has 9 bytes (a read), 8 (a write) or 5 (an exception, to 10, 11, 14, 15
- * and 16); there is none to 12, to 13, and to a broadcast. The length replied is never over `room`, and the bytes of
- * the buffer past the reply are untouched. */
+/* A bus frame of `length` bytes, checksum included, and a buffer for the reply. Answers 0; or 12 to 16, then 10, 11 or
+ * 17, and the record is as it was. A reply has 9 bytes (a read), 8 (a write) or 5 (an exception, to 10, 11 and 14 to
+ * 17); there is none to 12, to 13, and to a broadcast. The length replied is never over `room`, and the bytes of the
+ * buffer past the reply are untouched. */
 converter_answered converter_frame(converter_device *device, const uint8_t *frame, size_t length, uint8_t *reply,
                                    size_t room);
 
@@ -170,15 +196,15 @@ CONVERTER_AT(system, smax, 24); CONVERTER_AT(system, sz, 32);
 CONVERTER_SIZE(filter, 16); CONVERTER_AT(filter, ffst, 8);
 CONVERTER_SIZE(calibration, 336); CONVERTER_AT(calibration, temperature, 32); CONVERTER_AT(calibration, linearity, 160);
 CONVERTER_AT(calibration, system, 280); CONVERTER_AT(calibration, filter, 320);
-CONVERTER_SIZE(setup, 344); CONVERTER_AT(setup, station, 336);
+CONVERTER_SIZE(setup, 680); CONVERTER_AT(setup, copy, 336); CONVERTER_AT(setup, station, 672);
 CONVERTER_SIZE(values, 40); CONVERTER_AT(values, cell, 8); CONVERTER_AT(values, sraw, 16);
 CONVERTER_AT(values, sys, 24); CONVERTER_AT(values, stat, 32);
 CONVERTER_SIZE(readings, 80); CONVERTER_AT(readings, elec, 8); CONVERTER_AT(readings, temp, 16);
 CONVERTER_AT(readings, values, 24); CONVERTER_AT(readings, peak, 64); CONVERTER_AT(readings, trof, 72);
 CONVERTER_SIZE(snapshot, 16); CONVERTER_AT(snapshot, sysn, 8);
 CONVERTER_SIZE(state, 104); CONVERTER_AT(state, flag, 80); CONVERTER_AT(state, snapshot, 88);
-CONVERTER_SIZE(device, 448); CONVERTER_AT(device, state, 344);
-CONVERTER_SIZE(outcome, 456); CONVERTER_AT(outcome, device, 8);
+CONVERTER_SIZE(device, 784); CONVERTER_AT(device, state, 680);
+CONVERTER_SIZE(outcome, 792); CONVERTER_AT(outcome, device, 8);
 CONVERTER_SIZE(answered, 16); CONVERTER_AT(answered, length, 8);
 CONVERTER_SIZE(report_values, 16); CONVERTER_AT(report_values, peak, 4); CONVERTER_AT(report_values, trof, 8);
 CONVERTER_AT(report_values, cell, 12);
