@@ -8,15 +8,12 @@ use native.Mathlib.Omega.{arith}
 use lib.Bits.{bitAnd, bitOr}
 use lib.Dec.{eqb, leb, ltb, leb→le}
 use lib.Ieee.{Float}
-use lib.IntN.{ℤ}
 use lib.ListN.{length, take, drop}
 use borrow.Author.Tests.{eq-eqb, ne-eqb, le-ltb}
 use Rattle.integers.proofs.Machine.{and-left}
 use Rattle.integers.proofs.Order.{is-true}
 use Rattle.binary32.specs.Received.{counted}
-use Rattle.binary32.specs.Sent.{countFloat}
 use Rattle.figures.specs.Unused.{unusedZero}
-use Rattle.figures.specs.declared.Calibration.{Calibration}
 use Rattle.modbus.specs.Number.{FLAG, SZ, SYSN, PEAK, TROF, APPLY, RST, SNAP, PEAKRESET}
 use Rattle.modbus.specs.Register.{rangeOf}
 use Rattle.panel.specs.Figure.{figureAt, isFigure, withFigure, written}
@@ -30,7 +27,6 @@ use Rattle.modbus.specs.Frame.{stationOf, functionOf, forUs, toUs, checked, jud
 use Rattle.modbus.specs.Reply.{silent, answer, valueReply, writeReply, exceptionCode, exceptionReply}
 use Rattle.modbus.proofs.Replies.{length-framed, value-fits, write-fits, exception-fits}
 use Rattle.modbus.specs.declared.frame.Frame.{Frame}
-use Rattle.modbus.specs.declared.frame.Frame.the-variants as asks
 use Rattle.modbus.specs.declared.frame.Frame.the-variants.{Read, Write, Act}
 use Rattle.state.specs.Reading.{badReading, taken}
 use Rattle.state.specs.InForce.{withFigures, withCopy, zeroSteps, offered, copyFits, applied, setupWritten, setupActed, setupBy}

@@ -63,7 +63,10 @@ pub record Example (d : Device) : Type 0 where
   pub cgai : d .setup .figures .cell .cgai ≡ pos 536870912
 
 pub example : Example (run start calls)
-unfolding roundDiv floorDiv between interpolated defaultSheet temperatures linearities hold filtered scaled yAt rawCellAt crawAt cellAt rawSystemAt srawAt sysAt bitAt statOf cellValuesAt valuesFrom valuesAt takes nearest counted rangeOf ofBits shifted shifts taken accessOf checked toUs forUs accessAsked writeOf writeAsked judged outside badReading larger smaller peakAfter trofAfter joined reading.takenWith reading.taken unusedZero isFigure written cellWith temperaturePointWith temperatureWith linearityPointWith linearityWith systemWith filterWith withFigure shortOf wrongCount beyond notBelow tooSteep cellNumber temperatureNumber temperaturePointNumber linearityNumber linearityPointNumber systemNumber filterNumber sectionsNumber figuresNumber copyFits applied setupWritten setupActed setupBy fresh snapped acted flagged stateBy
+unfolding roundDiv floorDiv between interpolated defaultSheet temperatures linearities hold filtered scaled yAt rawCellAt crawAt cellAt rawSystemAt srawAt sysAt bitAt statOf cellValuesAt valuesFrom valuesAt takes nearest counted
+    rangeOf ofBits shifted shifts taken accessOf checked toUs forUs accessAsked writeOf writeAsked judged outside badReading larger smaller peakAfter trofAfter joined reading.takenWith reading.taken unusedZero isFigure written cellWith
+    temperaturePointWith temperatureWith linearityPointWith linearityWith systemWith filterWith withFigure shortOf wrongCount beyond notBelow tooSteep cellNumber temperatureNumber temperaturePointNumber linearityNumber
+    linearityPointNumber systemNumber filterNumber sectionsNumber figuresNumber copyFits applied setupWritten setupActed setupBy fresh snapped acted flagged stateBy
 example = record {
   reached = record { sheet = sheetBytes defaultSheet; station = 52; accepted = ap (λ (r : Outcome). r .number) default-made; calls = calls; is = sym (ap (λ (r : Outcome). run (r .device) calls) default-made) };
   reading = refl;

@@ -16,12 +16,10 @@ use Rattle.modbus.specs.Number.{APPLY, RST}
 use Rattle.modbus.specs.declared.frame.Frame.{Frame}
 use Rattle.modbus.specs.declared.frame.Frame.the-variants.{Read, Write, Act}
 use Rattle.panel.specs.Figure.{isFigure}
-use Rattle.sheet.proofs.Theorems.{read-accepted}
 use Rattle.state.specs.Reading.{badReading, joined, heldAfter, taken, takenWith}
 use Rattle.state.specs.InForce.{withFigures, offered, copyFits, setupBy}
 use Rattle.state.specs.Request.{stateBy}
 use Rattle.state.specs.Waiting.{Trimmed, PutInForce, SetBack}
-use Rattle.state.specs.declared.Setup.{Setup}
 use Rattle.state.specs.declared.State.{State}
 use Rattle.state.proofs.Trimmed.{trimmed}
 use Rattle.state.proofs.Waiting.{waiting}

@@ -21,5 +21,7 @@ use Rattle.modbus.specs.Register.{accessOf, rangeOf}
 use Rattle.converter.specs.Starred.{Starred}
 
 pub starred-hold : Starred
-unfolding roundDiv floorDiv between interpolated defaultSheet temperatures linearities hold filtered scaled yAt rawCellAt crawAt steps.cellAt rawSystemAt bitAt statOf toBits ofBits countFloat takes nearest counted accessOf rangeOf sheetNumber sectionsNumber cellNumber temperatureNumber temperaturePointNumber linearityNumber linearityPointNumber systemNumber filterNumber shortOf wrongCount beyond notBelow tooSteep trailing figuresOf cellAt temperatureAt temperaturePointAt linearityAt linearityPointAt systemAt filterAt figureAt signedOf sheetBytes cellBytes temperatureBytes linearityBytes systemBytes filterBytes temperaturePointBytes linearityPointBytes figureBytes
+unfolding roundDiv floorDiv between interpolated defaultSheet temperatures linearities hold filtered scaled yAt rawCellAt crawAt steps.cellAt rawSystemAt bitAt statOf toBits ofBits countFloat takes nearest counted accessOf rangeOf
+    sheetNumber sectionsNumber cellNumber temperatureNumber temperaturePointNumber linearityNumber linearityPointNumber systemNumber filterNumber shortOf wrongCount beyond notBelow tooSteep trailing figuresOf cellAt temperatureAt
+    temperaturePointAt linearityAt linearityPointAt systemAt filterAt figureAt signedOf sheetBytes cellBytes temperatureBytes linearityBytes systemBytes filterBytes temperaturePointBytes linearityPointBytes figureBytes
 starred-hold = record { hold = refl; all = refl }

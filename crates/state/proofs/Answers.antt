@@ -1,6 +1,6 @@
 -- What a frame is answered with, by the tests `isRead` and `obeys`: one that is obeyed is done, and one that is neither is refused
 -- with `refusalOf`. Assumes nothing.
-use mathlib.Core.Path.{_≡_, refl, _∙_, ap}
+use mathlib.Core.Path.{_≡_, refl, _∙_}
 use mathlib.Core.Bool.{Bool, true, false, cond, _||_, true≢false, false≢true}
 use native.Mathlib.Omega.{arith}
 use borrow.Author.Tests.{eqb-true, ne-eqb}

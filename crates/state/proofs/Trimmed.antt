@@ -3,12 +3,12 @@
 use mathlib.Core.Path.{_≡_, refl, sym, ap, _∙_}
 use mathlib.Core.Bool.{Bool, true, false}
 use mathlib.Core.List.{List, map}
-use Prim.Native.Nat.{ℕ, _+_, _≤_, _<_}
-use lib.Dec.{T, ltb→lt, leb→le}
+use Prim.Native.Nat.{ℕ, _+_, _<_}
+use lib.Dec.{ltb→lt, leb→le}
 use lib.IntN.{ℤ, pos, natAbs}
-use lib.ListN.{length, getD}
+use lib.ListN.{getD}
 use lib.Seq.{ext-getD}
-use lib.Signed.{ltZ, _≤ℤ_, _<ℤ_}
+use lib.Signed.{ltZ, _<ℤ_}
 use Rattle.integers.proofs.Order.{is-true, lt-no}
 use Rattle.figures.specs.Default.{noTemperature, noLinearity}
 use Rattle.figures.specs.Representable.{Representable}

@@ -2,13 +2,13 @@
 -- All that the proof knows of the two functions that are called is that they meet their contracts. Assumes nothing.
 use mathlib.Core.Bool.{Bool, true, false}
 use Rattle.figures.specs.declared.Calibration.{Calibration}
-use Rattle.figures.proofs.Calibration as F
 use Rattle.figures.proofs.Calibration.Laws as F′
 use Rattle.state.specs.InForce.{offered, accepted, copyFits, applied}
 use Rattle.converter.specs.declared.Device.{Device}
 use Rattle.converter.proofs.Device as D
-use Rattle.board.proofs.Walk.{none, some, _≡_, refl, sym, ℕ, [], _∷_, List, ℤ, URA, named, Val, vptr, SProp, ent, id⊢, emp, via, fst∗, sep, GName, Lft, Share, ftrue, flft, fobs, fbor, Memory, Routine, Heap, Calls, Loops, WpFn, Atoms, Fun, givenOf, Given, ‵, _⊛_, _$_, _∵_, !, qed}
-use Rattle.board.proofs.Walk.{by, move, keep, drop, split, join, fsplit, fsplit3, fjoin, fjoin3, feqI, suffices, frame, done, look, init, stop, hop, fld, from, load, of-opd, no-more, assigns, first, returns, returns-within, enter, alloc1, alloc0, params1, pass1, pass0, Body, FmC, owns, Is, mem}
+use Rattle.board.proofs.Walk.{some, _≡_, refl, sym, ℕ, [], _∷_, List, ℤ, URA, named, Val, vptr, SProp, ent, id⊢, emp, via, fst∗, sep, GName, Lft, Share, ftrue, flft, fobs, fbor, Memory, Routine, Heap, Calls, Loops, WpFn, Atoms, Fun, givenOf, Given, ‵, _⊛_, _$_, _∵_, !, qed}
+use Rattle.board.proofs.Walk.{by, move, keep, drop, split, join, fsplit, fsplit3, fjoin, fjoin3, feqI, suffices, frame, done, look, init, stop, hop, fld}
+use Rattle.board.proofs.Walk.{from, load, of-opd, no-more, assigns, first, returns, returns-within, enter, alloc1, alloc0, params1, pass1, pass0, Body, FmC, owns, Is, mem}
 use Rattle.board.proofs.Walk.{RefT, MutRef, ptr-vals, mut-tells, plain, owned, nothing, onEntry, says, Stays, stay-ref, walkOf, AllGo, goes-ref, Walks, ends-at, walked, bool, bool-makes, vbool, true-lit, false-lit}
 use Rattle.board.proofs.Call.{Callee, AllKnown, calls-plain, local}
 use Rattle.board.proofs.Callees.{offer, is-accepted}

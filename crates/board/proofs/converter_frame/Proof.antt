@@ -6,7 +6,6 @@ use denote.Struct.Laws as LL
 use Rattle.modbus.specs.Frame.{judged}
 use Rattle.modbus.specs.declared.frame.Frame.{Frame}
 use Rattle.modbus.proofs.frame.Frame.Laws as R′
-use mathlib.Core.Bool.{Bool, true, false}
 use Rattle.state.specs.Register.{answered}
 use Rattle.state.specs.Parts.{isRead, obeys, refusalOf}
 use Rattle.state.specs.declared.registers.Answer.{Answer}

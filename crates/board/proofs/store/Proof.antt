@@ -16,7 +16,7 @@ use Rattle.state.proofs.State.Laws as S′
 use Rattle.converter.specs.Call.{obeyed}
 use Rattle.converter.specs.declared.Device.{Device}
 use Rattle.converter.proofs.Device as D
-use Rattle.board.proofs.Walk.{none, some, _≡_, refl, sym, ℕ, [], _∷_, List, ℤ, URA, named, Val, vptr, vunit, SProp, ent, id⊢, emp, via, fst∗, sep, GName, Lft, Share, ftrue, flft, fobs, fbor, Memory, Routine, Heap, Calls, Loops, WpFn, Atoms, Fun, givenOf, Given, ‵, _⊛_, _$_, _∵_, !, qed}
+use Rattle.board.proofs.Walk.{none, some, _≡_, refl, ℕ, [], _∷_, List, ℤ, URA, named, Val, vptr, vunit, SProp, ent, id⊢, sep, GName, Lft, Share, ftrue, flft, fobs, fbor, Memory, Routine, Heap, Calls, Loops, WpFn, Atoms, Fun, givenOf, Given, ‵, _⊛_, _$_, _∵_, !, qed}
 use Rattle.board.proofs.Walk.{by, move, keep, drop, split, join, fsplit, fsplit3, fjoin, fjoin3, feqI, suffices, frame, done, unit-lit, look, init, stop, hop, fld, from, load, of-opd, no-more, assigns, first, returns, enter, alloc1, alloc0, params1, pass1, pass0, Body, FmC, owns, Is, mem}
 use Rattle.board.proofs.Walk.{RefT, MutRef, ptr-vals, mut-tells, plain, owned, nothing, onEntry, says, needs, Stays, stay-ref, walkOf, AllGo, goes-ref, Walks, ends-at, walked, stay-none, goes-none, yes}
 use Rattle.board.proofs.Call.{Callee, AllKnown, calls-plain, local}
@@ -24,7 +24,7 @@ use Rattle.board.proofs.Callees.{changes-zero, zero-after, restarts, un
 use Rattle.board.proofs.Branch.{branches-on, assigns-to}
 use Rattle.board.proofs.Entered.{walk-entered}
 use Rattle.sheet.proofs.Locals.{frees-all}
-use Rattle.board.proofs.Kept.{IsDevice, mach-state, mach-figures, number, restate, restated, rezero, rezeroed, recopy, recopied, state-is, sz-is, figures-is, copy-is}
+use Rattle.board.proofs.Kept.{mach-state, mach-figures, number, restate, restated, rezero, rezeroed, recopy, recopied, state-is, sz-is, figures-is, copy-is}
 use Rattle.board.proofs.Record.{opens-record, closes-record, setup-at, figures-at, copy-at, system-at, sz-at, state-at, sz-in, figures-in, copy-in, state-in, copies, stores-state, stores-sz, stores-copy}
 use Rattle.board.proofs.store.Key.{name as #board·store}
 use Rattle.board.proofs.store as f
@@ -93,7 +93,8 @@ module _ {M : Type 1} (𝓤 : URA M) (H : Heap 𝓤) (A : Atoms 𝓤) (W : Given
         keep ! (0 ∷ 1 ∷ 2 ∷ []) $ by ! (exits (rezero h z) (zeroes zero is))))
         (λ no-zero. calls-plain ! fm restarts (known-of .1 .1 .0) (tt, tt, tt, (a, tt), (va ∷ [], tt)) tt (id⊢ 𝓤 _) (a-is, tt) (id⊢ 𝓤 _) (λ d. d ≡ restartsBy a) (λ d e. id⊢ 𝓤 _) (local ! 30 refl (no-more !)) 21 refl refl (λ vd d rst d-is. branches-on ! (look ! 21 refl) d-is rst
         (λ rst. copies ! 0 refl (figures-in h ! was) (look ! 31 refl) (init ! 17 refl) $
-        calls-plain ! fm unused-zero (known-of .1 .1 .1 .0) (tt, tt, tt, (h .setup .figures, tt), (mach-figures (h .setup .figures) ∷ [], tt)) tt (id⊢ 𝓤 _) (figures-is h was, tt) (id⊢ 𝓤 _) (λ c. c ≡ unusedZero (h .setup .figures)) (λ c e. id⊢ 𝓤 _) (local ! 18 refl (no-more !)) 19 refl refl (λ vu u unused u-is.
+        calls-plain ! fm unused-zero (known-of .1 .1 .1 .0) (tt, tt, tt, (h .setup .figures, tt), (mach-figures (h .setup .figures) ∷ [], tt)) tt (id⊢ 𝓤 _) (figures-is h was, tt) (id⊢ 𝓤 _) (λ c. c ≡ unusedZero (h .setup .figures)) (λ c e. id⊢ 𝓤 _)
+        (local ! 18 refl (no-more !)) 19 refl refl (λ vu u unused u-is.
         assigns ! (of-opd ! (load ! (from ! (stop !)) (look ! 19 refl))) (from ! (hop ! (look ! 31 refl) (fld ! setup-at (fld ! copy-at (stop !))))) (stores-copy ! 0 h refl was u u-is) $
         calls-plain ! fm fresh (known-of .1 .1 .1 .1 .0) (tt, tt, tt, tt, tt) tt (id⊢ 𝓤 _) tt (id⊢ 𝓤 _) (λ s. s ≡ started) (λ s e. id⊢ 𝓤 _) (no-more !) 15 refl refl (λ vs s begun s-is.
         assigns-to ! t-3 Post (of-opd ! (load ! (from ! (stop !)) (look ! 15 refl))) (from ! (hop ! (look ! 31 refl) (fld ! state-at (stop !)))) (stores-state ! 0 (recopy h u) refl (recopied h was u u-is) s s-is) $

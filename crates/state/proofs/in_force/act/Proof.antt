@@ -1,5 +1,5 @@
 -- `state::in_force::act` meets its contract. Assumes nothing.
-use mathlib.Core.Path.{_≡_, refl, sym, ap, _∙_}
+use mathlib.Core.Path.{_≡_, ap}
 use borrow.Author.Tests.{eq-eqb, ne-eqb}
 use Rattle.state.specs.InForce.{withCopy, setupActed}
 use borrow.Author.Needs.{needs}

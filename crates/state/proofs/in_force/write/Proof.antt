@@ -1,9 +1,8 @@
 -- `state::in_force::write` meets its contract. Assumes nothing.
-use mathlib.Core.Path.{_≡_, refl, sym, ap, _∙_}
+use mathlib.Core.Path.{_≡_, sym, ap, _∙_}
 use Prim.Native.Nat.{ℕ}
 use lib.Ieee.{Float}
 use lib.IntN.{ℤ}
-use Rattle.integers.proofs.Machine.{held}
 use Rattle.modbus.specs.Number.{SZ}
 use Rattle.state.specs.declared.Setup.{Setup}
 use borrow.Author.Tests.{eq-eqb, ne-eqb}

@@ -1,5 +1,4 @@
 -- `state::parts::zero_after` meets its contract. Assumes nothing.
-use mathlib.Core.Path.{refl, ap, _∙_}
 use borrow.Author.Tests.{eq-eqb, ne-eqb}
 use mir.Syntax.{w64}
 use mir.ValLaws.{toZ-ofZ}

@@ -32,7 +32,10 @@ returns-3 c = by-case _ _ (c .before .frame .given .1) refl
 
 returns-4 : tie.Need-returns-4
 unfolding answered
-returns-4 c = let s = c .before .before .before .before .before .before .before in by-case (s .args .state) (s .args .setup) (c .before .before .before .before .before .frame2 .given .1) (c .register-at .ensures ∙ ap (λ (z : ℤ). registerAt (s .args .state) z (s .args .setup .copy) (c .before .before .before .before .before .frame2 .given .0 .0)) (kept (s .pre .sz-in)))
+returns-4 c =
+    let s = c .before .before .before .before .before .before .before in
+    let r = c .before .before .before .before .before .frame2 .given in
+    by-case (s .args .state) (s .args .setup) (r .1) (c .register-at .ensures ∙ ap (λ (z : ℤ). registerAt (s .args .state) z (s .args .setup .copy) (r .0 .0)) (kept (s .pre .sz-in)))
 
 returns-5 : tie.Need-returns-5
 unfolding answered
@@ -45,17 +48,5 @@ returns-6 c = by-case _ _ (c .enum-told .given .1) refl
 pub answer-to-spec : {M : Type 1} → statement M
 answer-to-spec =
     tie.close
-    (tie.spec
-    (λ c. search needs)
-    (λ c. search needs)
-    register-at-requires
-    (λ c. search needs)
-    returns
-    (λ c κs. search needs)
-    returns-2
-    (λ c κs. search needs)
-    (λ c. search needs)
-    returns-3
-    returns-4
-    returns-5
-    returns-6)
+    (tie.spec (λ c. search needs) (λ c. search needs) register-at-requires (λ c. search needs) returns (λ c κs. search needs)
+    returns-2 (λ c κs. search needs) (λ c. search needs) returns-3 returns-4 returns-5 returns-6)
