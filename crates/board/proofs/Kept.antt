@@ -39,10 +39,10 @@ use Rattle.state.proofs.Readings as G
 use Rattle.state.proofs.Readings.Laws as G′
 use Rattle.state.proofs.Snapshot as N
 use Rattle.state.proofs.Snapshot.Laws as N′
-use Rattle.state.proofs.Setup as U
-use Rattle.state.proofs.Setup.Laws as U′
-use Rattle.state.specs.InForce.{withZero, withFigures, withCopy}
-use Rattle.state.specs.declared.Setup.{Setup}
+use Rattle.in_force.proofs.Setup as U
+use Rattle.in_force.proofs.Setup.Laws as U′
+use Rattle.in_force.specs.InForce.{withZero, withFigures, withCopy}
+use Rattle.in_force.specs.declared.Setup.{Setup}
 use Rattle.state.specs.declared.State.{State}
 use Rattle.state.proofs.State as S
 use Rattle.state.proofs.State.Laws as S′

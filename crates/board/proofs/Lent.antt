@@ -7,8 +7,8 @@ use Rattle.modbus.proofs.frame.Frame.Laws as R′
 use Rattle.modbus.proofs.frame.judge as judge-of
 use Rattle.modbus.proofs.frame.judge.Symbol as judge-def
 use Rattle.modbus.proofs.frame.judge.Met as judge-thm
-use Rattle.state.proofs.Setup as U
-use Rattle.state.proofs.Setup.Laws as U′
+use Rattle.in_force.proofs.Setup as U
+use Rattle.in_force.proofs.Setup.Laws as U′
 use Rattle.state.proofs.State as S
 use Rattle.state.proofs.State.Laws as S′
 use Rattle.converter.specs.Reached.{Reached}

@@ -41,8 +41,8 @@ use Rattle.figures.proofs.System.Laws as Y′
 use Rattle.figures.proofs.Filter as I
 use Rattle.figures.proofs.Filter.Laws as I′
 use Rattle.state.specs.declared.State.{State}
-use Rattle.state.proofs.Setup as U
-use Rattle.state.proofs.Setup.Laws as U′
+use Rattle.in_force.proofs.Setup as U
+use Rattle.in_force.proofs.Setup.Laws as U′
 use Rattle.state.proofs.Readings as G
 use Rattle.state.proofs.Readings.Laws as G′
 use Rattle.state.proofs.State as S

@@ -4,8 +4,8 @@
 ghost use mathlib.Core.Path.{_≡_};
 ghost use Rattle.state.specs.Report.{reported};
 ghost use mathlib.Core.Bool.{false};
-ghost use Rattle.state.specs.InForce.{copyFits, applied};
-ghost use Rattle.state.specs.Parts.{applies, obeys};
+ghost use Rattle.in_force.specs.InForce.{copyFits, applied};
+ghost use Rattle.registers.specs.Parts.{applies, obeys};
 ghost use Rattle.converter.specs.Call.{obeyed};
 ghost use Rattle.converter.specs.Reached.{Reached, Making, Reading, Serving};
 use converter::Answered;
@@ -58,7 +58,7 @@ pub extern "C" fn converter_frame(device: &mut Device, frame: &[u8], reply: &mut
     ensures { λ r. ⌜ Serving (now (device .entry)) (now (frame .entry)) (now (reply .entry)) (now (reply .exit)) (record { number = r .number; length = r .length; device = now (device .exit) }) ⌝ }
 {
     let asked = modbus::frame::judge(frame, reply.len(), device.setup.station);
-    if state::is_read(asked) {
+    if registers::is_read(asked) {
         return converter::answer(device.state, device.setup, asked, frame, reply);
     }
     if obey(device, asked) {
@@ -71,10 +71,10 @@ pub extern "C" fn converter_frame(device: &mut Device, frame: &[u8], reply: &mut
 fn obey(device: &mut Device, asked: Frame) -> bool
     ensures { λ r. ⌜ (r ≡ obeys (now (device .entry) .state) (now (device .entry) .setup) asked) × (now (device .exit) ≡ obeyed (now (device .entry)) asked) ⌝ }
 {
-    if state::applies(asked) {
+    if registers::applies(asked) {
         return apply(device);
     }
-    if state::is_obeyed(device.state.readings, asked) {
+    if registers::is_obeyed(device.state.readings, asked) {
         store(device, asked);
         return true;
     }
@@ -85,8 +85,8 @@ fn obey(device: &mut Device, asked: Frame) -> bool
 fn apply(device: &mut Device) -> bool
     ensures { λ r. ⌜ (r ≡ copyFits (now (device .entry) .setup)) × (now (device .exit) ≡ record { setup = applied (now (device .entry) .setup); state = now (device .entry) .state }) ⌝ }
 {
-    let offered = state::offer(device.setup.figures.system.sz, device.setup.copy);
-    if state::is_accepted(offered) {
+    let offered = in_force::offer(device.setup.figures.system.sz, device.setup.copy);
+    if in_force::is_accepted(offered) {
         device.setup.figures = offered;
         return true;
     }
@@ -98,15 +98,15 @@ fn store(device: &mut Device, asked: Frame)
     requires { ⌜ applies asked ≡ false ⌝ }
     ensures { λ _. ⌜ now (device .exit) ≡ obeyed (now (device .entry)) asked ⌝ }
 {
-    if state::changes_zero(asked) {
-        device.setup.figures.system.sz = state::zero_after(device.setup.figures.system.sz, asked);
-    } else if state::restarts(asked) {
+    if registers::changes_zero(asked) {
+        device.setup.figures.system.sz = registers::zero_after(device.setup.figures.system.sz, asked);
+    } else if registers::restarts(asked) {
         device.setup.copy = panel::unused_zero(device.setup.figures);
         device.state = state::fresh();
-    } else if state::changes_state(asked) {
+    } else if registers::changes_state(asked) {
         device.state = state::state_after(device.state, asked);
     } else {
-        device.setup.copy = state::copy_after(device.setup.copy, asked);
+        device.setup.copy = registers::copy_after(device.setup.copy, asked);
     }
 }
 

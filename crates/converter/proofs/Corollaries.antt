@@ -18,7 +18,7 @@ use Rattle.modbus.specs.Number.{FLAG, SZ, SYSN, PEAK, TROF, APPLY, RST, SNAP, P
 use Rattle.modbus.specs.Register.{rangeOf}
 use Rattle.panel.specs.Figure.{figureAt, isFigure, withFigure, written}
 use Rattle.panel.proofs.Places.{read-written, others-kept, counts-written}
-use Rattle.state.proofs.Answers.{answer-obeyed}
+use Rattle.registers.proofs.Answers.{answer-obeyed}
 use Rattle.converter.proofs.Entries.{unobeyed}
 use Rattle.converter.proofs.Reached.{reached-sound}
 use Rattle.binary32.specs.Sent.{stepFloat, wholeFloat}
@@ -29,14 +29,14 @@ use Rattle.modbus.proofs.Replies.{length-framed, value-fits, write-fits, except
 use Rattle.modbus.specs.declared.frame.Frame.{Frame}
 use Rattle.modbus.specs.declared.frame.Frame.the-variants.{Read, Write, Act}
 use Rattle.state.specs.Reading.{badReading, taken}
-use Rattle.state.specs.InForce.{withFigures, withCopy, zeroSteps, offered, copyFits, applied, setupWritten, setupActed, setupBy}
+use Rattle.in_force.specs.InForce.{withFigures, withCopy, zeroSteps, offered, copyFits, applied, setupWritten, setupActed, setupBy}
 use Rattle.state.specs.Request.{flagWhole, acted, flagged, stateBy, fresh, snapped, peaksAt, peaksReset}
-use Rattle.state.specs.Register.{stepsAt, readingFloat, readingAt, registerAt, answered, onCopy, numberOf}
-use Rattle.state.specs.Parts.{obeys}
+use Rattle.registers.specs.Register.{stepsAt, readingFloat, readingAt, registerAt, answered, onCopy, numberOf}
+use Rattle.registers.specs.Parts.{obeys}
 use Rattle.state.specs.Report.{reported}
 use Rattle.state.specs.declared.State.{State}
-use Rattle.state.specs.declared.registers.Answer.{Answer}
-use Rattle.state.specs.declared.registers.Answer.the-variants.{Value, Done, Refused}
+use Rattle.registers.specs.declared.Answer.{Answer}
+use Rattle.registers.specs.declared.Answer.the-variants.{Value, Done, Refused}
 use Rattle.converter.specs.Making.{started}
 use Rattle.converter.specs.Call.{Call, reading, frame, report, obeyed, read, step, answerTo, number, replyWith, reply}
 use Rattle.converter.specs.Reached.{Reached, Serving}

@@ -23,11 +23,11 @@ use Rattle.modbus.specs.declared.frame.Frame.the-variants.{Read, Write, Act}
 use Rattle.state.specs.Reading.{badReading, heldAfter, taken, takenWith}
 use borrow.Author.Tests.{ne-eqb, eqb-true}
 use native.Mathlib.Omega.{arith}
-use Rattle.state.specs.InForce.{copyFits, applied, setupActed, setupBy}
+use Rattle.in_force.specs.InForce.{copyFits, applied, setupActed, setupBy}
 use Rattle.state.specs.Request.{fresh, snapped, peaksReset, acted, stateBy}
-use Rattle.state.specs.Register.{answered, numberOf}
-use Rattle.state.specs.Parts.{isRead, applies, isObeyed, obeys}
-use Rattle.state.specs.declared.Setup.{Setup}
+use Rattle.registers.specs.Register.{answered, numberOf}
+use Rattle.registers.specs.Parts.{isRead, applies, isObeyed, obeys}
+use Rattle.in_force.specs.declared.Setup.{Setup}
 use Rattle.state.specs.declared.State.{State}
 use Rattle.converter.specs.Call as call
 use Rattle.converter.specs.Call.{obeyed, step, number, answerTo}

@@ -25,7 +25,7 @@ use Rattle.state.specs.Reading as reading
 use Rattle.state.specs.Reading.{outside, badReading, larger, smaller, peakAfter, trofAfter, joined}
 use Rattle.panel.specs.Figure.{isFigure, written, cellWith, temperaturePointWith, temperatureWith, linearityPointWith, linearityWith, systemWith, filterWith, withFigure}
 use Rattle.sheet.specs.Judge.{shortOf, wrongCount, beyond, notBelow, tooSteep, cellNumber, temperatureNumber, temperaturePointNumber, linearityNumber, linearityPointNumber, systemNumber, filterNumber, sectionsNumber, figuresNumber}
-use Rattle.state.specs.InForce.{copyFits, applied, setupWritten, setupActed, setupBy}
+use Rattle.in_force.specs.InForce.{copyFits, applied, setupWritten, setupActed, setupBy}
 use Rattle.state.specs.Request.{fresh, snapped, acted, flagged, stateBy}
 use Rattle.converter.specs.Making.{stationFits, started, made}
 use Rattle.converter.specs.Call as call

@@ -23,9 +23,9 @@ use Rattle.modbus.specs.Frame.{judged}
 use Rattle.modbus.specs.declared.frame.Frame.{Frame}
 use Rattle.modbus.specs.declared.frame.Frame.the-variants.{Refused, Read, Write, Act}
 use Rattle.state.specs.Reading.{badReading, peakAfter, trofAfter, joined, heldAfter, taken, takenWith}
-use Rattle.state.specs.InForce.{setupBy}
+use Rattle.in_force.specs.InForce.{setupBy}
 use Rattle.state.specs.Request.{reboot, flagWhole, fresh, snapped, peaksAt, peaksReset, acted, flagged, stateBy}
-use Rattle.state.specs.declared.Setup.{Setup}
+use Rattle.in_force.specs.declared.Setup.{Setup}
 use Rattle.state.specs.declared.Readings.{Readings}
 use Rattle.state.specs.declared.State.{State}
 use Rattle.converter.specs.declared.Device.{Device}

@@ -17,12 +17,12 @@ use Rattle.modbus.specs.declared.frame.Frame.{Frame}
 use Rattle.modbus.specs.declared.frame.Frame.the-variants.{Read, Write, Act}
 use Rattle.panel.specs.Figure.{isFigure}
 use Rattle.state.specs.Reading.{badReading, joined, heldAfter, taken, takenWith}
-use Rattle.state.specs.InForce.{withFigures, offered, copyFits, setupBy}
+use Rattle.in_force.specs.InForce.{withFigures, offered, copyFits, setupBy}
 use Rattle.state.specs.Request.{stateBy}
-use Rattle.state.specs.Waiting.{Trimmed, PutInForce, SetBack}
+use Rattle.in_force.specs.Waiting.{Trimmed, PutInForce, SetBack}
 use Rattle.state.specs.declared.State.{State}
-use Rattle.state.proofs.Trimmed.{trimmed}
-use Rattle.state.proofs.Waiting.{waiting}
+use Rattle.in_force.proofs.Trimmed.{trimmed}
+use Rattle.in_force.proofs.Waiting.{waiting}
 use Rattle.converter.specs.Making.{setupOf, made}
 use Rattle.converter.specs.Call.{Call, reading, frame, obeyed, read, step}
 use Rattle.converter.specs.Reached.{Reached}

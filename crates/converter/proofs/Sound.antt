@@ -34,10 +34,11 @@ use Rattle.modbus.specs.declared.frame.Frame.{Frame}
 use Rattle.modbus.specs.declared.frame.Frame.the-variants.{Refused, Read, Write, Act}
 use Rattle.modbus.specs.Frame.{judged}
 use Rattle.state.specs.Reading.{tempMost, outside, beyond, badReading, larger, smaller, peakAfter, trofAfter, joined, heldAfter, taken, takenWith}
-use Rattle.state.specs.InForce.{withZero, zeroSteps, withFigures, withCopy, offered, copyFits, applied, setupWritten, setupActed, setupBy}
+use Rattle.in_force.specs.InForce.{withZero, zeroSteps, withFigures, withCopy, offered, copyFits, applied, setupWritten, setupActed, setupBy}
 use Rattle.state.specs.Request.{noReadings, fresh, snapped, peaksAt, peaksReset, acted, flagged, stateBy}
-use Rattle.state.specs.Register.{valueMost, ReadingsWithin, StateWithin}
-use Rattle.state.specs.declared.Setup.{Setup}
+use Rattle.state.specs.Within.{valueMost, ReadingsWithin}
+use Rattle.registers.specs.Within.{StateWithin}
+use Rattle.in_force.specs.declared.Setup.{Setup}
 use Rattle.state.specs.declared.Readings.{Readings}
 use Rattle.state.specs.declared.State.{State}
 use Rattle.converter.specs.declared.Device.{Device}

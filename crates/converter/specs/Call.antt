@@ -7,13 +7,13 @@ use Rattle.modbus.specs.Frame.{judged}
 use Rattle.modbus.specs.declared.frame.Frame.{Frame}
 use Rattle.modbus.specs.Reply.{valueReply, writeReply, exceptionReply}
 use Rattle.state.specs.Reading.{badReading, taken}
-use Rattle.state.specs.InForce.{setupBy}
+use Rattle.in_force.specs.InForce.{setupBy}
 use Rattle.state.specs.Request.{stateBy}
-use Rattle.state.specs.Register.{answered, numberOf}
+use Rattle.registers.specs.Register.{answered, numberOf}
 use Rattle.state.specs.Report.{reported}
 use Rattle.converter.specs.declared.Device.{Device}
-use Rattle.state.specs.declared.registers.Answer.{Answer}
-use Rattle.state.specs.declared.registers.Answer.the-variants.{Value, Done, Refused}
+use Rattle.registers.specs.declared.Answer.{Answer}
+use Rattle.registers.specs.declared.Answer.the-variants.{Value, Done, Refused}
 
 -- a call: its arguments alone. `room` is the length of the reply buffer.
 pub data Call : Type 0 where

@@ -16,9 +16,9 @@ use Rattle.modbus.specs.Frame.{judged}
 use Rattle.modbus.specs.declared.frame.Frame.{Frame}
 use Rattle.modbus.specs.declared.frame.Frame.the-variants.{Refused, Read, Write, Act}
 use Rattle.state.specs.Reading.{badReading}
-use Rattle.state.specs.InForce.{setupBy}
+use Rattle.in_force.specs.InForce.{setupBy}
 use Rattle.state.specs.Request.{reboot, flagWhole}
-use Rattle.state.specs.declared.Setup.{Setup}
+use Rattle.in_force.specs.declared.Setup.{Setup}
 use Rattle.converter.specs.Making.{setupOf}
 use Rattle.converter.specs.Call.{Call, reading, frame, report}
 

@@ -6,7 +6,7 @@ use lib.Dec.{eqb, leb}
 use Rattle.figures.specs.Unused.{unusedZero}
 use Rattle.sheet.specs.Read.{noFigures, readSheet}
 use Rattle.state.specs.Request.{noReadings, noSnapshot, fresh}
-use Rattle.state.specs.declared.Setup.{Setup}
+use Rattle.in_force.specs.declared.Setup.{Setup}
 use Rattle.converter.specs.declared.Device.{Device}
 use Rattle.converter.specs.declared.Outcome.{Outcome}
 

@@ -2,14 +2,14 @@
 ghost use mathlib.Core.Path.{_≡_};
 ghost use lib.ListN.{length};
 ghost use Rattle.modbus.specs.Reply.{Replied};
-ghost use Rattle.state.specs.Register.{answered, numberOf};
-ghost use Rattle.state.specs.Parts.{refusalOf};
-ghost use Rattle.state.specs.declared.registers.Answer.the-variants.{Done, Refused};
+ghost use Rattle.registers.specs.Register.{answered, numberOf};
+ghost use Rattle.registers.specs.Parts.{refusalOf};
+ghost use Rattle.registers.specs.declared.Answer.the-variants.{Done, Refused};
 ghost use Rattle.converter.specs.Call.{replyWith};
 ghost use Rattle.converter.specs.Reached.{Parts, Answering};
 use modbus::frame::Frame;
-use state::Answer;
-use state::Setup;
+use registers::Answer;
+use in_force::Setup;
 use state::State;
 
 // The number, 0 where the frame was obeyed, and the length replied, 0 for none.
@@ -51,7 +51,7 @@ pub fn answer(
     requires { ⌜ Parts state setup ⌝ }
     ensures { λ r. ⌜ Answering (answered state setup request) (now (frame .entry)) (now (reply .entry)) (now (reply .exit)) r ⌝ }
 {
-    let answer = state::answer_to(state, setup, request);
+    let answer = registers::answer_to(state, setup, request);
     let length = reply_with(frame, reply, answer);
     let number = number_in(answer);
     Answered { number, length }
@@ -69,7 +69,7 @@ pub fn acknowledge(frame: &[u8], reply: &mut [u8]) -> Answered
 pub fn refuse(request: Frame, frame: &[u8], reply: &mut [u8]) -> Answered
     ensures { λ r. ⌜ Answering (Refused (refusalOf request)) (now (frame .entry)) (now (reply .entry)) (now (reply .exit)) r ⌝ }
 {
-    let number = state::refusal(request);
+    let number = registers::refusal(request);
     let length = modbus::reply::exception(frame, reply, number);
     Answered { number, length }
 }

@@ -12,7 +12,7 @@ pub use bus::acknowledge;
 pub use bus::answer;
 pub use bus::refuse;
 use state::Reported;
-use state::Setup;
+use in_force::Setup;
 use state::State;
 
 #[repr(C)]
@@ -107,7 +107,7 @@ impl Device {
         let before = self.setup;
         let request = modbus::frame::judge(frame, reply.len(), before.station);
         let answered = bus::answer(self.state, before, request, frame, reply);
-        let setup = state::setup_after(before, request);
+        let setup = in_force::setup_after(before, request);
         let state = state::state_after(self.state, request);
         let device = Device { setup, state };
         Served {

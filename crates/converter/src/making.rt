@@ -3,7 +3,7 @@ ghost use mathlib.Core.Path.{_≡_};
 ghost use Rattle.converter.specs.Making.{stationFits, noDevice, refused as refusedWith};
 use crate::Device;
 use crate::Outcome;
-use state::Setup;
+use in_force::Setup;
 
 pub fn station_fits(station: u8) -> bool
     ensures { λ r. ⌜ r ≡ stationFits station ⌝ }

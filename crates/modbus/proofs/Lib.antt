@@ -10,3 +10,4 @@ pub mod Ends
 pub mod Replies
 pub mod Judged
 pub mod Checked
+pub mod Frames

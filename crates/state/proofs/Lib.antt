@@ -1,6 +1,1 @@
-pub mod Answers
-pub mod Frames
-pub mod Stored
 pub mod Within
-pub mod Trimmed
-pub mod Waiting

@@ -1,6 +1,6 @@
 // The report (01, "The reading").
 ghost use mathlib.Core.Path.{_≡_};
-ghost use Rattle.state.specs.Register.{ReadingsWithin};
+ghost use Rattle.state.specs.Within.{ReadingsWithin};
 ghost use Rattle.state.specs.Report.{reportOf, reported};
 use crate::Readings;
 use binary32::sent::float_of_steps;

@@ -3,7 +3,7 @@
 use mathlib.Core.Bool.{Bool, true, false}
 use Rattle.figures.specs.declared.Calibration.{Calibration}
 use Rattle.figures.proofs.Calibration.Laws as F′
-use Rattle.state.specs.InForce.{offered, accepted, copyFits, applied}
+use Rattle.in_force.specs.InForce.{offered, accepted, copyFits, applied}
 use Rattle.converter.specs.declared.Device.{Device}
 use Rattle.converter.proofs.Device as D
 use Rattle.board.proofs.Walk.{some, _≡_, refl, sym, ℕ, [], _∷_, List, ℤ, URA, named, Val, vptr, SProp, ent, id⊢, emp, via, fst∗, sep, GName, Lft, Share, ftrue, flft, fobs, fbor, Memory, Routine, Heap, Calls, Loops, WpFn, Atoms, Fun, givenOf, Given, ‵, _⊛_, _$_, _∵_, !, qed}
@@ -92,5 +92,5 @@ pub apply-spec : {M : Type 1} → stated.statement M
 unfolding code.routine
 apply-spec 𝓤 H 𝓜 𝓖 𝓡 =
     let W = givenOf 𝓤 H 𝓜 𝓖 in
-    walk-entered 𝓤 H 𝓜 𝓖 𝓡 code.env #board·apply code.function (code.unfolded 𝓤 H 𝓜 𝓡) callees (code.calls-state·offer, (code.calls-state·is-accepted, tt))
+    walk-entered 𝓤 H 𝓜 𝓖 𝓡 code.env #board·apply code.function (code.unfolded 𝓤 H 𝓜 𝓡) callees (code.calls-in-force·offer, (code.calls-in-force·is-accepted, tt))
     f.ended (f.clauses 𝓤 H (𝓖 .A) (𝓜 .mem) (𝓡 .run)) stayed (goes 𝓤 H (𝓖 .A) W (𝓜 .mem) (𝓡 .run)) (walks 𝓤 H (𝓖 .A) W (𝓜 .mem) (𝓡 .run))

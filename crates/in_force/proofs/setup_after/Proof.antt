@@ -1,0 +1,22 @@
+-- `in_force::setup_after` meets its contract: each arm by the frame that it is for. Assumes nothing.
+use mathlib.Core.Path.{refl}
+use Rattle.modbus.proofs.Frames.{by-case, neither}
+use Rattle.in_force.specs.InForce.{setupBy}
+use borrow.Author.Needs.{needs}
+use Rattle.in_force.proofs.setup_after.Statement.{statement}
+use Rattle.in_force.proofs.setup_after.Tie as tie
+
+returns : tie.Need-returns
+unfolding setupBy
+returns c = by-case (setupBy _) (c .before .before .frame .given .1) (c .write .ensures)
+
+returns-2 : tie.Need-returns-2
+unfolding setupBy
+returns-2 c = by-case (setupBy _) (c .before .before .frame2 .given .1) (c .act .ensures)
+
+returns-3 : tie.Need-returns-3
+unfolding setupBy
+returns-3 c = neither (setupBy (c .before .args .setup)) (λ n. refl) (λ r. refl) (c .before .args .frame) (c .match .keys3)
+
+pub setup-after-spec : {M : Type 1} → statement M
+setup-after-spec = tie.close (tie.spec (λ c. search needs) (λ c κs. search needs) (λ c. search needs) (λ c κs. search needs) returns returns-2 returns-3)
