@@ -4,7 +4,7 @@ use denote.Enum.Laws as EL
 use Rattle.modbus.specs.declared.frame.Frame.{Frame}
 use Rattle.modbus.proofs.frame.Frame as R
 use Rattle.modbus.proofs.frame.Frame.Laws as R′
-use Rattle.registers.specs.Parts.{applies}
+use Rattle.answers.specs.Parts.{applies}
 use Rattle.converter.specs.declared.Device.{Device}
 use Rattle.converter.proofs.Device as D
 use Rattle.board.proofs.Walk.{_≡_, refl, sym, ap, subst, ℕ, [], _∷_, List, URA, Val, vptr, SProp, ent, GName, Lft, Share, flft, fobs, fbor, Memory, Routine, Heap, Atoms, Fun, Given, Item, ‵, ⋆, _$_, _∵_, !, qed, move, join}

@@ -5,7 +5,7 @@ ghost use mathlib.Core.Path.{_≡_};
 ghost use Rattle.state.specs.Report.{reported};
 ghost use mathlib.Core.Bool.{false};
 ghost use Rattle.in_force.specs.InForce.{copyFits, applied};
-ghost use Rattle.registers.specs.Parts.{applies, obeys};
+ghost use Rattle.answers.specs.Parts.{applies, obeys};
 ghost use Rattle.converter.specs.Call.{obeyed};
 ghost use Rattle.converter.specs.Reached.{Reached, Making, Reading, Serving};
 use converter::Answered;
@@ -58,7 +58,7 @@ pub extern "C" fn converter_frame(device: &mut Device, frame: &[u8], reply: &mut
     ensures { λ r. ⌜ Serving (now (device .entry)) (now (frame .entry)) (now (reply .entry)) (now (reply .exit)) (record { number = r .number; length = r .length; device = now (device .exit) }) ⌝ }
 {
     let asked = modbus::frame::judge(frame, reply.len(), device.setup.station);
-    if registers::is_read(asked) {
+    if answers::is_read(asked) {
         return converter::answer(device.state, device.setup, asked, frame, reply);
     }
     if obey(device, asked) {
@@ -71,10 +71,10 @@ pub extern "C" fn converter_frame(device: &mut Device, frame: &[u8], reply: &mut
 fn obey(device: &mut Device, asked: Frame) -> bool
     ensures { λ r. ⌜ (r ≡ obeys (now (device .entry) .state) (now (device .entry) .setup) asked) × (now (device .exit) ≡ obeyed (now (device .entry)) asked) ⌝ }
 {
-    if registers::applies(asked) {
+    if answers::applies(asked) {
         return apply(device);
     }
-    if registers::is_obeyed(device.state.readings, asked) {
+    if answers::is_obeyed(device.state.readings, asked) {
         store(device, asked);
         return true;
     }
@@ -98,15 +98,15 @@ fn store(device: &mut Device, asked: Frame)
     requires { ⌜ applies asked ≡ false ⌝ }
     ensures { λ _. ⌜ now (device .exit) ≡ obeyed (now (device .entry)) asked ⌝ }
 {
-    if registers::changes_zero(asked) {
-        device.setup.figures.system.sz = registers::zero_after(device.setup.figures.system.sz, asked);
-    } else if registers::restarts(asked) {
+    if answers::changes_zero(asked) {
+        device.setup.figures.system.sz = answers::zero_after(device.setup.figures.system.sz, asked);
+    } else if answers::restarts(asked) {
         device.setup.copy = panel::unused_zero(device.setup.figures);
         device.state = state::fresh();
-    } else if registers::changes_state(asked) {
+    } else if answers::changes_state(asked) {
         device.state = state::state_after(device.state, asked);
     } else {
-        device.setup.copy = registers::copy_after(device.setup.copy, asked);
+        device.setup.copy = answers::copy_after(device.setup.copy, asked);
     }
 }
 

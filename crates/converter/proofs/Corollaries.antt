@@ -14,15 +14,15 @@ use Rattle.integers.proofs.Machine.{and-left}
 use Rattle.integers.proofs.Order.{is-true}
 use Rattle.binary32.specs.Received.{counted}
 use Rattle.figures.specs.Unused.{unusedZero}
-use Rattle.modbus.specs.Number.{FLAG, SZ, SYSN, PEAK, TROF, APPLY, RST, SNAP, PEAKRESET}
-use Rattle.modbus.specs.Register.{rangeOf}
+use Rattle.register.specs.Number.{FLAG, SZ, SYSN, PEAK, TROF, APPLY, RST, SNAP, PEAKRESET}
+use Rattle.register.specs.Register.{rangeOf}
 use Rattle.panel.specs.Figure.{figureAt, isFigure, withFigure, written}
 use Rattle.panel.proofs.Places.{read-written, others-kept, counts-written}
-use Rattle.registers.proofs.Answers.{answer-obeyed}
+use Rattle.answers.proofs.Answers.{answer-obeyed}
 use Rattle.converter.proofs.Entries.{unobeyed}
 use Rattle.converter.proofs.Reached.{reached-sound}
 use Rattle.binary32.specs.Sent.{stepFloat, wholeFloat}
-use Rattle.modbus.specs.Checksum.{framed}
+use Rattle.checksum.specs.Checksum.{framed}
 use Rattle.modbus.specs.Frame.{stationOf, functionOf, forUs, toUs, checked, judged}
 use Rattle.modbus.specs.Reply.{silent, answer, valueReply, writeReply, exceptionCode, exceptionReply}
 use Rattle.modbus.proofs.Replies.{length-framed, value-fits, write-fits, exception-fits}
@@ -31,12 +31,12 @@ use Rattle.modbus.specs.declared.frame.Frame.the-variants.{Read, Write, Act}
 use Rattle.state.specs.Reading.{badReading, taken}
 use Rattle.in_force.specs.InForce.{withFigures, withCopy, zeroSteps, offered, copyFits, applied, setupWritten, setupActed, setupBy}
 use Rattle.state.specs.Request.{flagWhole, acted, flagged, stateBy, fresh, snapped, peaksAt, peaksReset}
-use Rattle.registers.specs.Register.{stepsAt, readingFloat, readingAt, registerAt, answered, onCopy, numberOf}
-use Rattle.registers.specs.Parts.{obeys}
+use Rattle.answers.specs.Register.{stepsAt, readingFloat, readingAt, registerAt, answered, onCopy, numberOf}
+use Rattle.answers.specs.Parts.{obeys}
 use Rattle.state.specs.Report.{reported}
 use Rattle.state.specs.declared.State.{State}
-use Rattle.registers.specs.declared.Answer.{Answer}
-use Rattle.registers.specs.declared.Answer.the-variants.{Value, Done, Refused}
+use Rattle.answers.specs.declared.Answer.{Answer}
+use Rattle.answers.specs.declared.Answer.the-variants.{Value, Done, Refused}
 use Rattle.converter.specs.Making.{started}
 use Rattle.converter.specs.Call.{Call, reading, frame, report, obeyed, read, step, answerTo, number, replyWith, reply}
 use Rattle.converter.specs.Reached.{Reached, Serving}

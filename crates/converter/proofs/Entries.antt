@@ -15,7 +15,7 @@ use Rattle.compensation.specs.declared.steps.CellValues.{CellValues}
 use Rattle.compensation.specs.declared.steps.Input.{Input}
 use Rattle.compensation.specs.declared.steps.Values.{Values}
 use Rattle.compensation.proofs.Magnitudes.{cell-input, values-input}
-use Rattle.modbus.specs.Number.{APPLY, RST, SNAP, PEAKRESET}
+use Rattle.register.specs.Number.{APPLY, RST, SNAP, PEAKRESET}
 use Rattle.modbus.specs.Frame.{judged}
 use Rattle.modbus.specs.declared.frame.Frame.{Frame}
 use Rattle.modbus.specs.declared.frame.Frame.the-variants as asks
@@ -25,8 +25,8 @@ use borrow.Author.Tests.{ne-eqb, eqb-true}
 use native.Mathlib.Omega.{arith}
 use Rattle.in_force.specs.InForce.{copyFits, applied, setupActed, setupBy}
 use Rattle.state.specs.Request.{fresh, snapped, peaksReset, acted, stateBy}
-use Rattle.registers.specs.Register.{answered, numberOf}
-use Rattle.registers.specs.Parts.{isRead, applies, isObeyed, obeys}
+use Rattle.answers.specs.Register.{answered, numberOf}
+use Rattle.answers.specs.Parts.{isRead, applies, isObeyed, obeys}
 use Rattle.in_force.specs.declared.Setup.{Setup}
 use Rattle.state.specs.declared.State.{State}
 use Rattle.converter.specs.Call as call

@@ -18,8 +18,8 @@ use Rattle.compensation.specs.Stat.{bitAt, Raised, crawor, statOf}
 use Rattle.compensation.specs.Values.{cellValuesAt, valuesFrom, valuesAt}
 use Rattle.binary32.specs.Received.{takes, nearest, counted}
 use Rattle.figures.specs.Unused.{unusedZero}
-use Rattle.modbus.specs.Checksum.{shifted, shifts, taken}
-use Rattle.modbus.specs.Register.{accessOf, rangeOf}
+use Rattle.checksum.specs.Checksum.{shifted, shifts, taken}
+use Rattle.register.specs.Register.{accessOf, rangeOf}
 use Rattle.modbus.specs.Frame.{checked, toUs, forUs, accessAsked, writeOf, writeAsked, judged}
 use Rattle.state.specs.Reading as reading
 use Rattle.state.specs.Reading.{outside, badReading, larger, smaller, peakAfter, trofAfter, joined}

@@ -18,7 +18,7 @@ use Rattle.compensation.specs.declared.steps.Values.{Values}
 use Rattle.compensation.proofs.Faithful.{faithful}
 use borrow.Author.Tests.{ne-eqb, eqb-true}
 use native.Mathlib.Omega.{arith}
-use Rattle.modbus.specs.Number.{FLAG, RST, SNAP, PEAKRESET}
+use Rattle.register.specs.Number.{FLAG, RST, SNAP, PEAKRESET}
 use Rattle.modbus.specs.Frame.{judged}
 use Rattle.modbus.specs.declared.frame.Frame.{Frame}
 use Rattle.modbus.specs.declared.frame.Frame.the-variants.{Refused, Read, Write, Act}

@@ -12,7 +12,7 @@ use Rattle.figures.specs.declared.Calibration.{Calibration}
 use Rattle.compensation.specs.Faithful.{Faithful}
 use Rattle.compensation.proofs.Faithful.{faithful}
 use Rattle.modbus.specs.Frame.{judged}
-use Rattle.modbus.specs.Number.{APPLY, RST}
+use Rattle.register.specs.Number.{APPLY, RST}
 use Rattle.modbus.specs.declared.frame.Frame.{Frame}
 use Rattle.modbus.specs.declared.frame.Frame.the-variants.{Read, Write, Act}
 use Rattle.panel.specs.Figure.{isFigure}

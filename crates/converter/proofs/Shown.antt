@@ -11,13 +11,13 @@ use Prim.Native.Nat.{ℕ}
 use lib.Ieee.{Float}
 use Rattle.compensation.specs.declared.steps.Values.{Values}
 use Rattle.binary32.specs.Sent.{stepFloat, wholeFloat}
-use Rattle.modbus.specs.Number.{STAT, SOUT, SYS, TEMP, SRAW, CELL, CRAW, ELEC, PEAK, TROF, CGAI}
-use Rattle.registers.specs.Register.{stepsAt, readingFloat, readingAt, panelAt, registerAt}
+use Rattle.register.specs.Number.{STAT, SOUT, SYS, TEMP, SRAW, CELL, CRAW, ELEC, PEAK, TROF, CGAI}
+use Rattle.answers.specs.Register.{stepsAt, readingFloat, readingAt, panelAt, registerAt}
 use Rattle.state.specs.Report.{noReport, reported}
 use Rattle.in_force.specs.declared.Setup.{Setup}
 use Rattle.state.specs.declared.Readings.{Readings}
 use Rattle.state.specs.declared.reporting.Reported.{Reported}
-use Rattle.registers.specs.declared.Answer.the-variants.{Value, Refused}
+use Rattle.answers.specs.declared.Answer.the-variants.{Value, Refused}
 use Rattle.converter.specs.Log.{Kept, valued, Entry, Log}
 use Rattle.converter.specs.History.{Right, AlwaysShown, Shown}
 use Rattle.converter.specs.declared.Device.{Device}

@@ -23,8 +23,8 @@ use Rattle.compensation.specs.Values.{cellValuesAt, valuesFrom, valuesAt, value
 use Rattle.compensation.proofs.FilterHull.{filtered-within}
 use Rattle.compensation.proofs.Magnitudes.{cell-magnitudes-of, system-magnitudes-of}
 use Rattle.binary32.proofs.Counted.{counted-within}
-use Rattle.modbus.specs.Number.{FLAG, SZ, APPLY, RST, SNAP, PEAKRESET}
-use Rattle.modbus.specs.Register.{accessOf, rangeOf}
+use Rattle.register.specs.Number.{FLAG, SZ, APPLY, RST, SNAP, PEAKRESET}
+use Rattle.register.specs.Register.{accessOf, rangeOf}
 use Rattle.panel.specs.Figure.{isFigure, written, InRange}
 use Rattle.panel.proofs.Places.{written-in-range, written-representable}
 use Rattle.panel.proofs.Unused.{unused-in-range, unused-representable}
@@ -37,7 +37,7 @@ use Rattle.state.specs.Reading.{tempMost, outside, beyond, badReading, larger, 
 use Rattle.in_force.specs.InForce.{withZero, zeroSteps, withFigures, withCopy, offered, copyFits, applied, setupWritten, setupActed, setupBy}
 use Rattle.state.specs.Request.{noReadings, fresh, snapped, peaksAt, peaksReset, acted, flagged, stateBy}
 use Rattle.state.specs.Within.{valueMost, ReadingsWithin}
-use Rattle.registers.specs.Within.{StateWithin}
+use Rattle.answers.specs.Within.{StateWithin}
 use Rattle.in_force.specs.declared.Setup.{Setup}
 use Rattle.state.specs.declared.Readings.{Readings}
 use Rattle.state.specs.declared.State.{State}

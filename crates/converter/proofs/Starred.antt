@@ -17,7 +17,7 @@ use Rattle.compensation.specs.Reading.{scaled, yAt, rawCellAt, crawAt, rawSyste
 use Rattle.compensation.specs.Stat.{bitAt, statOf}
 use Rattle.binary32.specs.Sent.{countFloat}
 use Rattle.binary32.specs.Received.{takes, nearest, counted}
-use Rattle.modbus.specs.Register.{accessOf, rangeOf}
+use Rattle.register.specs.Register.{accessOf, rangeOf}
 use Rattle.converter.specs.Starred.{Starred}
 
 pub starred-hold : Starred

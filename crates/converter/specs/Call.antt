@@ -9,11 +9,11 @@ use Rattle.modbus.specs.Reply.{valueReply, writeReply, exceptionReply}
 use Rattle.state.specs.Reading.{badReading, taken}
 use Rattle.in_force.specs.InForce.{setupBy}
 use Rattle.state.specs.Request.{stateBy}
-use Rattle.registers.specs.Register.{answered, numberOf}
+use Rattle.answers.specs.Register.{answered, numberOf}
 use Rattle.state.specs.Report.{reported}
 use Rattle.converter.specs.declared.Device.{Device}
-use Rattle.registers.specs.declared.Answer.{Answer}
-use Rattle.registers.specs.declared.Answer.the-variants.{Value, Done, Refused}
+use Rattle.answers.specs.declared.Answer.{Answer}
+use Rattle.answers.specs.declared.Answer.the-variants.{Value, Done, Refused}
 
 -- a call: its arguments alone. `room` is the length of the reply buffer.
 pub data Call : Type 0 where

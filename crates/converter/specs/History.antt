@@ -11,13 +11,13 @@ use lib.Signed.{_≤ℤ_}
 use Rattle.compensation.specs.Stat.{Raised}
 use Rattle.compensation.specs.Faithful.{Faithful}
 use Rattle.binary32.specs.Sent.{stepFloat, wholeFloat}
-use Rattle.modbus.specs.Number.{STAT, SOUT, SYS, TEMP, SRAW, CELL, FLAG, CRAW, ELEC, SZ, SYSN, PEAK, TROF, APPLY, RST, SNAP, PEAKRESET}
+use Rattle.register.specs.Number.{STAT, SOUT, SYS, TEMP, SRAW, CELL, FLAG, CRAW, ELEC, SZ, SYSN, PEAK, TROF, APPLY, RST, SNAP, PEAKRESET}
 use Rattle.panel.specs.Figure.{isFigure, figureFloat}
-use Rattle.registers.specs.Register.{registerAt}
+use Rattle.answers.specs.Register.{registerAt}
 use Rattle.state.specs.Report.{reported}
 use Rattle.state.specs.declared.Readings.{Readings}
 use Rattle.converter.specs.declared.Device.{Device}
-use Rattle.registers.specs.declared.Answer.the-variants.{Value, Refused}
+use Rattle.answers.specs.declared.Answer.the-variants.{Value, Refused}
 use Rattle.converter.specs.Making.{made}
 use Rattle.converter.specs.Call.{Call, run}
 use Rattle.converter.specs.Log.{Kept, valued, Entry, joined, peakReset, Event, raised, kept, Log, latest, logOf}

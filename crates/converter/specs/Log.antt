@@ -11,7 +11,7 @@ use Rattle.figures.specs.declared.Calibration.{Calibration}
 use Rattle.compensation.specs.Filter.{filtered}
 use Rattle.compensation.specs.Values.{valuesOf}
 use Rattle.compensation.specs.declared.steps.Values.{Values}
-use Rattle.modbus.specs.Number.{FLAG, RST, PEAKRESET}
+use Rattle.register.specs.Number.{FLAG, RST, PEAKRESET}
 use Rattle.modbus.specs.Frame.{judged}
 use Rattle.modbus.specs.declared.frame.Frame.{Frame}
 use Rattle.modbus.specs.declared.frame.Frame.the-variants.{Refused, Read, Write, Act}

@@ -19,8 +19,8 @@ use Rattle.compensation.specs.Reading.{rawCell, craw}
 use Rattle.compensation.specs.Stat.{bitAt, stat, crawor}
 use Rattle.binary32.specs.Sent.{stepFloat}
 use Rattle.binary32.specs.Received.{takes, counted}
-use Rattle.modbus.specs.Number.{SZ}
-use Rattle.modbus.specs.Register.{rangeOf}
+use Rattle.register.specs.Number.{SZ}
+use Rattle.register.specs.Register.{rangeOf}
 
 -- ---- what the cases are about
 

@@ -2,13 +2,13 @@
 ghost use mathlib.Core.Path.{_≡_};
 ghost use lib.ListN.{length};
 ghost use Rattle.modbus.specs.Reply.{Replied};
-ghost use Rattle.registers.specs.Register.{answered, numberOf};
-ghost use Rattle.registers.specs.Parts.{refusalOf};
-ghost use Rattle.registers.specs.declared.Answer.the-variants.{Done, Refused};
+ghost use Rattle.answers.specs.Register.{answered, numberOf};
+ghost use Rattle.answers.specs.Parts.{refusalOf};
+ghost use Rattle.answers.specs.declared.Answer.the-variants.{Done, Refused};
 ghost use Rattle.converter.specs.Call.{replyWith};
 ghost use Rattle.converter.specs.Reached.{Parts, Answering};
 use modbus::frame::Frame;
-use registers::Answer;
+use answers::Answer;
 use in_force::Setup;
 use state::State;
 
@@ -51,7 +51,7 @@ pub fn answer(
     requires { ⌜ Parts state setup ⌝ }
     ensures { λ r. ⌜ Answering (answered state setup request) (now (frame .entry)) (now (reply .entry)) (now (reply .exit)) r ⌝ }
 {
-    let answer = registers::answer_to(state, setup, request);
+    let answer = answers::answer_to(state, setup, request);
     let length = reply_with(frame, reply, answer);
     let number = number_in(answer);
     Answered { number, length }
@@ -69,7 +69,7 @@ pub fn acknowledge(frame: &[u8], reply: &mut [u8]) -> Answered
 pub fn refuse(request: Frame, frame: &[u8], reply: &mut [u8]) -> Answered
     ensures { λ r. ⌜ Answering (Refused (refusalOf request)) (now (frame .entry)) (now (reply .entry)) (now (reply .exit)) r ⌝ }
 {
-    let number = registers::refusal(request);
+    let number = answers::refusal(request);
     let length = modbus::reply::exception(frame, reply, number);
     Answered { number, length }
 }

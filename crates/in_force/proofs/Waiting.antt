@@ -15,9 +15,9 @@ use Rattle.figures.specs.declared.Calibration.{Calibration}
 use Rattle.sheet.proofs.Theorems.{judged-acceptable}
 use Rattle.binary32.specs.Received.{counted}
 use Rattle.binary32.specs.Sent.{countFloat}
-use Rattle.modbus.specs.Ends.{isIn}
-use Rattle.modbus.specs.Number.{SZ, APPLY, RST}
-use Rattle.modbus.specs.Register.{accessOf, rangeOf}
+use Rattle.register.specs.Ends.{isIn}
+use Rattle.register.specs.Number.{SZ, APPLY, RST}
+use Rattle.register.specs.Register.{accessOf, rangeOf}
 use Rattle.modbus.specs.declared.frame.Frame.{Frame}
 use Rattle.modbus.specs.declared.frame.Frame.the-variants.{Refused, Read, Write, Act}
 use Rattle.panel.specs.Figure.{systemAt, figureAt, isFigure, figureFloat, written}

@@ -8,8 +8,8 @@ use Rattle.figures.specs.Unused.{unusedZero}
 use Rattle.figures.specs.declared.Calibration.{Calibration}
 use Rattle.sheet.specs.Judge.{figuresNumber}
 use Rattle.binary32.specs.Received.{counted}
-use Rattle.modbus.specs.Number.{SZ, APPLY, RST}
-use Rattle.modbus.specs.Register.{rangeOf}
+use Rattle.register.specs.Number.{SZ, APPLY, RST}
+use Rattle.register.specs.Register.{rangeOf}
 use Rattle.modbus.specs.declared.frame.Frame.{Frame}
 use Rattle.modbus.specs.declared.frame.Frame.the-variants.{Refused, Read, Write, Act}
 use Rattle.panel.specs.Figure.{isFigure, written}

@@ -13,8 +13,8 @@ use Rattle.figures.specs.Representable.{Representable}
 use Rattle.figures.specs.declared.Calibration.{Calibration}
 use Rattle.binary32.specs.Received.{counted}
 use Rattle.binary32.specs.Sent.{countFloat}
-use Rattle.modbus.specs.Ends.{from, isIn}
-use Rattle.modbus.specs.Register.{rangeOf}
+use Rattle.register.specs.Ends.{from, isIn}
+use Rattle.register.specs.Register.{rangeOf}
 use Rattle.modbus.specs.declared.frame.Frame.{Frame}
 use Rattle.modbus.specs.declared.frame.Frame.the-variants.{Refused, Read, Write, Act}
 use Rattle.panel.specs.Figure.{figureAt, figureFloat}

@@ -3,7 +3,6 @@ ghost use mathlib.Core.Path.{_≡_};
 ghost use Rattle.in_force.specs.InForce.{zeroSteps, offered, accepted, copyFits, applied, setupWritten, setupActed, setupBy};
 use figures::Calibration;
 use modbus::frame::Frame;
-use modbus::register;
 
 
 // The figures in force, SZ as last written among them; the waiting copy, whose own SZ is not looked at; and the station.

@@ -11,13 +11,13 @@ use lib.Bits.{bitXor, xor-self, xor-lt}
 use lib.Dec.{eqb}
 use lib.ListN.{length, take, drop}
 use lib.Seq.{take-length, take-at, getD-append-add}
-use Rattle.integers.specs.Bytes.{wordOf}
+use Rattle.integers.specs.Bytes.{byteAt, wordOf}
 use Rattle.integers.proofs.Words.{number-at}
-use Rattle.modbus.specs.Checksum.{shifts, checksumOf, framed}
-use Rattle.modbus.specs.Frame.{byteAt, checked}
-use Rattle.modbus.proofs.Xor.{xor-zero}
-use Rattle.modbus.proofs.Shifts.{shifts-up, shifts-zero}
-use Rattle.modbus.proofs.Bytes.{checksum-fits, bytes-taken, run-at-once, further}
+use Rattle.checksum.specs.Checksum.{shifts, checksumOf, framed}
+use Rattle.modbus.specs.Frame.{checked}
+use Rattle.checksum.proofs.Xor.{xor-zero}
+use Rattle.checksum.proofs.Shifts.{shifts-up, shifts-zero}
+use Rattle.checksum.proofs.Bytes.{checksum-fits, bytes-taken, run-at-once, further}
 use Rattle.modbus.proofs.Replies.{length-framed}
 
 pub framed-checked : (l : List ℕ) → checked (framed l) ≡ true

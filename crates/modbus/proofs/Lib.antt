@@ -1,12 +1,3 @@
-pub mod Xor
-pub mod Shifts
-pub mod Linear
-pub mod AtOnce
-pub mod Bytes
-pub mod Words
-pub mod Run
-pub mod Registers
-pub mod Ends
 pub mod Replies
 pub mod Judged
 pub mod Checked

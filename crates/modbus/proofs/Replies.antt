@@ -10,11 +10,11 @@ use lib.Bits.{bitOr}
 use lib.Dec.{eqb, ltb, lit≤}
 use lib.Ieee.{Float}
 use lib.ListN.{length, take, drop, length-append, length-take}
-use Rattle.modbus.specs.Checksum.{checksumOf, framed}
+use Rattle.checksum.specs.Checksum.{checksumOf, framed}
 use Rattle.integers.specs.Bytes.{wordOf, wordBytes}
 use Rattle.binary32.specs.Wire.{wireBytes, sent}
 use Rattle.modbus.specs.Frame.{stationOf, functionOf}
-use Rattle.modbus.proofs.Bytes.{Bytes, bytes-each}
+use Rattle.checksum.proofs.Bytes.{Bytes, bytes-each}
 use Rattle.integers.proofs.Words.{bytes-word}
 use Rattle.modbus.specs.Reply.{silent, answer, valueReply, writeReply, exceptionCode, exceptionReply, Replied}
 

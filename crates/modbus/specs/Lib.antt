@@ -1,6 +1,2 @@
-pub mod Checksum
-pub mod Number
-pub mod Register
-pub mod Ends
 pub mod Frame
 pub mod Reply

@@ -3,11 +3,10 @@ ghost use mathlib.Core.Path.{_≡_};
 ghost use Prim.Native.Nat.{_+_, _≤_, _<_};
 ghost use lib.ListN.{length};
 ghost use Rattle.binary32.specs.Received.{Computable};
-ghost use Rattle.modbus.specs.Number.{SZ};
-ghost use Rattle.modbus.specs.Register.{accessOf, rangeIn};
+ghost use Rattle.register.specs.Number.{SZ};
+ghost use Rattle.register.specs.Register.{accessOf, rangeIn};
 ghost use Rattle.modbus.specs.Frame.{wordAt, toUs, checked, forUs, accessAsked, readAsked, writeOf, writeAsked, judged};
-use crate::register;
-use crate::register::Access;
+use register::Access;
 
 // A good frame, or the number that it is turned down with. A write carries the float that it sends,
 // which its register takes. A register's number has 32 bits, so that a frame fills more than one word:
@@ -50,7 +49,7 @@ fn checksum_right(frame: &[u8]) -> bool
     ensures { λ r. ⌜ r ≡ checked (now (frame .entry)) ⌝ }
 {
     let n = frame.len();
-    crate::checksum::checksum(frame, n) == 0
+    checksum::checksum(frame, n) == 0
 }
 
 fn for_us(frame: &[u8], station: u8) -> bool

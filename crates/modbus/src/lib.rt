@@ -1,5 +1,3 @@
 // The bus without a device (01, "The bus"): what a frame asks, and how a reply is put together.
-pub mod checksum;
 pub mod frame;
-pub mod register;
 pub mod reply;

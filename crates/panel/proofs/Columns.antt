@@ -7,7 +7,7 @@ use borrow.Author.Tests.{ne-eqb}
 use Rattle.figures.specs.Default.{noTemperature, noLinearity}
 use Rattle.figures.specs.declared.Temperature.{Temperature}
 use Rattle.figures.specs.declared.Linearity.{Linearity}
-use Rattle.modbus.specs.Number.{CLN, CLX, CLK, CTN, CT, CTG, CTO}
+use Rattle.register.specs.Number.{CLN, CLX, CLK, CTN, CT, CTG, CTO}
 use Rattle.panel.specs.Figure.{linearityAt, temperatureAt}
 use Rattle.panel.proofs.Among.{inside, above}
 

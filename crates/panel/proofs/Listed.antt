@@ -5,9 +5,9 @@ use Prim.Native.Nat.{ℕ, _+_, _≤_, _<_}
 use native.Mathlib.Omega.{arith}
 use borrow.Author.Tests.{le-ltb, ne-eqb}
 use lib.Dec.{T}
-use Rattle.modbus.specs.Number.{CLN, SGAI, FFLV, CTN, CT, CTG, CTO}
-use Rattle.modbus.proofs.Registers.{told}
-use Rattle.modbus.proofs.Run.{every, at-every}
+use Rattle.register.specs.Number.{CLN, SGAI, FFLV, CTN, CT, CTG, CTO}
+use Rattle.register.proofs.Registers.{told}
+use Rattle.register.proofs.Run.{every, at-every}
 use Rattle.panel.specs.Figure.{isFigure}
 use Rattle.panel.proofs.Among.{above}
 

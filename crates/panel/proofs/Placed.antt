@@ -10,12 +10,12 @@ use lib.Ieee.{Float}
 use Rattle.figures.specs.Representable.{Representable}
 use Rattle.figures.specs.declared.Calibration.{Calibration}
 use Rattle.binary32.specs.Received.{counted}
-use Rattle.modbus.specs.Number.{CGAI, COFS, CMIN, CMAX, CLN, CLX, CLK, SGAI, SOFS, SMIN, SMAX, FFLV, FFST, CTN, CT, CTG, CTO}
-use Rattle.modbus.specs.Register.{rangeOf}
-use Rattle.modbus.specs.Ends.{isIn}
-use Rattle.modbus.proofs.Run.{at-every}
-use Rattle.modbus.proofs.Registers.{told}
-use Rattle.modbus.proofs.Ends.{none-in}
+use Rattle.register.specs.Number.{CGAI, COFS, CMIN, CMAX, CLN, CLX, CLK, SGAI, SOFS, SMIN, SMAX, FFLV, FFST, CTN, CT, CTG, CTO}
+use Rattle.register.specs.Register.{rangeOf}
+use Rattle.register.specs.Ends.{isIn}
+use Rattle.register.proofs.Run.{at-every}
+use Rattle.register.proofs.Registers.{told}
+use Rattle.register.proofs.Ends.{none-in}
 use Rattle.panel.specs.Figure.{among, cellAt, linearityAt, systemAt, filterAt, temperatureAt, figureAt, isFigure, withFigure, systemWith, written}
 use Rattle.panel.specs.Placed.{temperaturePoint, linearityPoint, Shown, numbers, Placed}
 use Rattle.panel.proofs.Columns.{clx-at, clk-at, ct-at, ctg-at, cto-at}

@@ -26,9 +26,9 @@ use Rattle.figures.specs.declared.Filter.{Filter}
 use Rattle.figures.specs.declared.Calibration.{Calibration}
 use Rattle.binary32.specs.Received.{counted}
 use Rattle.binary32.proofs.Counted.{counted-within, counted-up}
-use Rattle.modbus.specs.Number.{CGAI, COFS, CMIN, CMAX, CLN, CLX, CLK, SGAI, SOFS, SMIN, SMAX, FFLV, FFST, CTN, CT, CTG, CTO}
-use Rattle.modbus.specs.Register.{accessOf, rangeOf}
-use Rattle.modbus.proofs.Registers.{least-within}
+use Rattle.register.specs.Number.{CGAI, COFS, CMIN, CMAX, CLN, CLX, CLK, SGAI, SOFS, SMIN, SMAX, FFLV, FFST, CTN, CT, CTG, CTO}
+use Rattle.register.specs.Register.{accessOf, rangeOf}
+use Rattle.register.proofs.Registers.{least-within}
 use Rattle.panel.specs.Figure.{among, cellAt, linearityAt, systemAt, filterAt, temperatureAt, figureAt, isFigure, put, numbered, cellWith, linearityPointWith, linearityWith, systemWith, filterWith, temperaturePointWith, temperatureWith, withFigure, written, Counts, InRange}
 use Rattle.panel.proofs.Numbered.{at, numbered-long}
 

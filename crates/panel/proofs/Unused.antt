@@ -23,10 +23,10 @@ use Rattle.figures.specs.declared.Linearity.{Linearity}
 use Rattle.figures.specs.declared.System.{System}
 use Rattle.figures.specs.declared.Filter.{Filter}
 use Rattle.figures.specs.declared.Calibration.{Calibration}
-use Rattle.modbus.specs.Number.{CGAI, COFS, CMIN, CMAX, CLN, CLX, CLK, SGAI, SOFS, SMIN, SMAX, FFLV, FFST, CTN, CT, CTG, CTO}
-use Rattle.modbus.specs.declared.register.Access.{Access}
-use Rattle.modbus.specs.Register.{accessOf, rangeIn, rangeOf, steps, parts}
-use Rattle.modbus.proofs.Registers.{in-range}
+use Rattle.register.specs.Number.{CGAI, COFS, CMIN, CMAX, CLN, CLX, CLK, SGAI, SOFS, SMIN, SMAX, FFLV, FFST, CTN, CT, CTG, CTO}
+use Rattle.register.specs.declared.Access.{Access}
+use Rattle.register.specs.Register.{accessOf, rangeIn, rangeOf, steps, parts}
+use Rattle.register.proofs.Registers.{in-range}
 use Rattle.panel.specs.Figure.{among, cellAt, linearityAt, systemAt, filterAt, temperatureAt, figureAt, temperatureUsed, linearityUsed, InRange}
 
 -- ---- one column of a table

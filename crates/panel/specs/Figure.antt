@@ -23,8 +23,8 @@ use Rattle.figures.specs.declared.Filter.{Filter}
 use Rattle.figures.specs.declared.Calibration.{Calibration}
 use Rattle.binary32.specs.Sent.{countFloat}
 use Rattle.binary32.specs.Received.{counted}
-use Rattle.modbus.specs.Number.{CGAI, COFS, CMIN, CMAX, CLN, CLX, CLK, SGAI, SOFS, SMIN, SMAX, FFLV, FFST, CTN, CT, CTG, CTO}
-use Rattle.modbus.specs.Register.{rangeOf}
+use Rattle.register.specs.Number.{CGAI, COFS, CMIN, CMAX, CLN, CLX, CLK, SGAI, SOFS, SMIN, SMAX, FFLV, FFST, CTN, CT, CTG, CTO}
+use Rattle.register.specs.Register.{rangeOf}
 
 -- ---- the figure at a register; 0 at any other
 

@@ -14,8 +14,8 @@ use Rattle.figures.specs.declared.TemperaturePoint.{TemperaturePoint}
 use Rattle.figures.specs.declared.LinearityPoint.{LinearityPoint}
 use Rattle.figures.specs.declared.Calibration.{Calibration}
 use Rattle.binary32.specs.Received.{counted}
-use Rattle.modbus.specs.Register.{rangeOf}
-use Rattle.modbus.specs.Ends.{from, isIn}
+use Rattle.register.specs.Register.{rangeOf}
+use Rattle.register.specs.Ends.{from, isIn}
 use Rattle.panel.specs.Figure.{figureAt, isFigure, written}
 
 -- a table's point, by its index

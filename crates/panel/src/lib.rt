@@ -5,7 +5,7 @@ ghost use lib.IntN.{natAbs};
 ghost use Rattle.integers.specs.Within.{_within_};
 ghost use Rattle.figures.specs.Default.{noTemperature, noLinearity};
 ghost use Rattle.figures.specs.Unused.{used, unusedZero};
-ghost use Rattle.modbus.specs.Register.{rangeOf};
+ghost use Rattle.register.specs.Register.{rangeOf};
 ghost use Rattle.panel.specs.Figure.{cellAt, linearityAt, systemAt, filterAt, temperatureAt, figureAt, isFigure, figureFloat};
 ghost use Rattle.panel.specs.Figure.{put as putIn, numbered, cellWith, systemWith, filterWith, temperaturePointWith, temperatureWith};
 ghost use Rattle.panel.specs.Figure.{linearityPointWith, linearityWith, withFigure, written, Counts, usedAt, temperatureUsed, linearityUsed};
@@ -17,7 +17,6 @@ use figures::LinearityPoint;
 use figures::System;
 use figures::Temperature;
 use figures::TemperaturePoint;
-use modbus::register;
 
 fn cell_at(c: Cell, register: u32) -> i64
     ensures { λ z. ⌜ z ≡ cellAt c register ⌝ }

@@ -8,8 +8,8 @@ use lib.Ieee.{Float}
 use lib.IntN.{pos, natAbs}
 use Rattle.compensation.specs.declared.steps.Values.{Values}
 use Rattle.binary32.specs.Received.{counted}
-use Rattle.modbus.specs.Number.{FLAG, RST, SNAP, PEAKRESET}
-use Rattle.modbus.specs.Register.{rangeOf}
+use Rattle.register.specs.Number.{FLAG, RST, SNAP, PEAKRESET}
+use Rattle.register.specs.Register.{rangeOf}
 use Rattle.modbus.specs.declared.frame.Frame.{Frame}
 use Rattle.modbus.specs.declared.frame.Frame.the-variants.{Refused, Read, Write, Act}
 use Rattle.state.specs.declared.Readings.{Readings}

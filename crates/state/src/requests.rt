@@ -6,7 +6,6 @@ use crate::Snapshot;
 use crate::State;
 use compensation::Values;
 use modbus::frame::Frame;
-use modbus::register;
 
 // A start, or RST: no reading, no snapshot, and FLAG says REBOOT.
 pub fn fresh() -> State

@@ -9,9 +9,9 @@ use Rattle.binary32.specs.Received.{takes, nearest, counted, Computable}
 use Rattle.binary32.specs.declared.received.Range.{Range}
 use Rattle.binary32.specs.Sent.{countFloat}
 use Rattle.binary32.specs.Wire.{wireBytes}
-use Rattle.modbus.specs.Checksum.{taken, framed}
-use Rattle.modbus.specs.Register.{accessOf, rangeOf}
-use Rattle.modbus.proofs.Registers.{range-computable}
+use Rattle.checksum.specs.Checksum.{taken, framed}
+use Rattle.register.specs.Register.{accessOf, rangeOf}
+use Rattle.register.proofs.Registers.{range-computable}
 use Rattle.modbus.specs.Frame.{checked, toUs, forUs, accessAsked, readAsked, writeOf, writeAsked, judged}
 use Rattle.modbus.specs.Reply.{silent, answer, writeReply, exceptionCode, exceptionReply, Replied}
 

@@ -1,12 +1,12 @@
 // Modbus CRC-16 against known values.
 ghost use mathlib.Core.Path.{_≡_};
-ghost use Rattle.modbus.specs.Checksum.{checksumOf};
+ghost use Rattle.checksum.specs.Checksum.{checksumOf};
 
 // The checksum of all the bytes is the expected one.
 pub(crate) fn is(bytes: &[u8], expected: u16)
     requires { ⌜ checksumOf (now bytes) ≡ expected ⌝ }
 {
-    check::expect(modbus::checksum::checksum(bytes, bytes.len()) == expected);
+    check::expect(checksum::checksum(bytes, bytes.len()) == expected);
 }
 
 pub(crate) fn cases() {

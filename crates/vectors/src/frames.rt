@@ -5,7 +5,6 @@ ghost use Rattle.modbus.specs.declared.frame.Frame.the-variants.{Refused};
 ghost use Rattle.vectors.specs.Asked.{numberOf, floatOf};
 use crate::checksums;
 use modbus::frame::Frame;
-use modbus::register;
 
 // The number of a refusal; else the register, with what is done to it.
 fn number_of(asked: Frame) -> u64

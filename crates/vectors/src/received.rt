@@ -3,10 +3,9 @@ ghost use mathlib.Core.Path.{_≡_};
 ghost use mathlib.Core.Bool.{true, false};
 ghost use lib.Ieee.{binary32, ofBits};
 ghost use Rattle.binary32.specs.Received.{takes, counted};
-ghost use Rattle.modbus.specs.Number.{SZ};
-ghost use Rattle.modbus.specs.Register.{rangeOf};
+ghost use Rattle.register.specs.Number.{SZ};
+ghost use Rattle.register.specs.Register.{rangeOf};
 use crate::floats;
-use modbus::register;
 
 // A register takes the float of a pattern as the expected count.
 fn is(register: u32, bits: u32, count: i64)

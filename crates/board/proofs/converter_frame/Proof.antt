@@ -6,11 +6,11 @@ use denote.Struct.Laws as LL
 use Rattle.modbus.specs.Frame.{judged}
 use Rattle.modbus.specs.declared.frame.Frame.{Frame}
 use Rattle.modbus.proofs.frame.Frame.Laws as R′
-use Rattle.registers.specs.Register.{answered}
-use Rattle.registers.specs.Parts.{isRead, obeys, refusalOf}
-use Rattle.registers.specs.declared.Answer.{Answer}
-use Rattle.registers.specs.declared.Answer.the-variants.{Done, Refused}
-use Rattle.registers.proofs.Answers.{answer-obeyed, answer-refused}
+use Rattle.answers.specs.Register.{answered}
+use Rattle.answers.specs.Parts.{isRead, obeys, refusalOf}
+use Rattle.answers.specs.declared.Answer.{Answer}
+use Rattle.answers.specs.declared.Answer.the-variants.{Done, Refused}
+use Rattle.answers.proofs.Answers.{answer-obeyed, answer-refused}
 use Rattle.in_force.proofs.Setup.Laws as U′
 use Rattle.state.proofs.State.Laws as S′
 use Rattle.converter.specs.Call.{obeyed}
@@ -144,5 +144,5 @@ pub converter-frame-spec : {M : Type 1} → stated.statement M
 unfolding code.routine
 converter-frame-spec 𝓤 H 𝓜 𝓖 𝓡 =
     walk-entered 𝓤 H 𝓜 𝓖 𝓡 code.env #board·converter-frame code.function (code.unfolded 𝓤 H 𝓜 𝓡) callees
-    (code.calls-modbus·frame·judge, (code.calls-registers·is-read, (code.calls-converter·answer, (code.calls-board·obey, (code.calls-converter·acknowledge, (code.calls-converter·refuse, tt))))))
+    (code.calls-modbus·frame·judge, (code.calls-answers·is-read, (code.calls-converter·answer, (code.calls-board·obey, (code.calls-converter·acknowledge, (code.calls-converter·refuse, tt))))))
     f.ended (f.clauses 𝓤 H (𝓖 .A) (𝓜 .mem) (𝓡 .run)) stayed (goes 𝓤 H (𝓖 .A) (givenOf 𝓤 H 𝓜 𝓖) (𝓜 .mem) (𝓡 .run)) (walks 𝓤 H (𝓖 .A) (givenOf 𝓤 H 𝓜 𝓖) (𝓜 .mem) (𝓡 .run))

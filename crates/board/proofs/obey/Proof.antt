@@ -6,8 +6,8 @@ use Rattle.modbus.specs.declared.frame.Frame.{Frame}
 use Rattle.modbus.proofs.frame.Frame as R
 use Rattle.modbus.proofs.frame.Frame.Laws as R′
 use Rattle.in_force.specs.InForce.{copyFits, applied}
-use Rattle.registers.specs.Parts.{applies as appliesBy, isObeyed, obeys}
-use Rattle.registers.proofs.Stored.{setup-applied, state-applied}
+use Rattle.answers.specs.Parts.{applies as appliesBy, isObeyed, obeys}
+use Rattle.answers.proofs.Stored.{setup-applied, state-applied}
 use Rattle.state.proofs.Readings.Laws as G′
 use Rattle.converter.specs.Call.{obeyed}
 use Rattle.converter.specs.declared.Device.{Device}
@@ -112,5 +112,5 @@ pub obey-spec : {M : Type 1} → stated.statement M
 unfolding code.routine
 obey-spec 𝓤 H 𝓜 𝓖 𝓡 =
     let W = givenOf 𝓤 H 𝓜 𝓖 in
-    walk-entered 𝓤 H 𝓜 𝓖 𝓡 code.env #board·obey code.function (code.unfolded 𝓤 H 𝓜 𝓡) callees (code.calls-registers·applies, (code.calls-board·apply, (code.calls-registers·is-obeyed, (code.calls-board·store, tt))))
+    walk-entered 𝓤 H 𝓜 𝓖 𝓡 code.env #board·obey code.function (code.unfolded 𝓤 H 𝓜 𝓡) callees (code.calls-answers·applies, (code.calls-board·apply, (code.calls-answers·is-obeyed, (code.calls-board·store, tt))))
     f.ended (f.clauses 𝓤 H (𝓖 .A) (𝓜 .mem) (𝓡 .run)) stayed (goes 𝓤 H (𝓖 .A) W (𝓜 .mem) (𝓡 .run)) (walks 𝓤 H (𝓖 .A) W (𝓜 .mem) (𝓡 .run))

@@ -9,9 +9,9 @@ use Rattle.modbus.specs.declared.frame.Frame.{Frame}
 use Rattle.modbus.proofs.frame.Frame as R
 use Rattle.modbus.proofs.frame.Frame.Laws as R′
 use Rattle.state.specs.Request.{fresh as started, stateBy}
-use Rattle.registers.specs.Parts.{applies, changesZero, restarts as restartsBy, changesState, zeroBy, copyBy}
+use Rattle.answers.specs.Parts.{applies, changesZero, restarts as restartsBy, changesState, zeroBy, copyBy}
 use Rattle.state.specs.declared.State.{State}
-use Rattle.registers.proofs.Stored.{setup-zeroed, state-zeroed, setup-restarted, state-restarted, setup-kept, setup-copied, state-kept}
+use Rattle.answers.proofs.Stored.{setup-zeroed, state-zeroed, setup-restarted, state-restarted, setup-kept, setup-copied, state-kept}
 use Rattle.state.proofs.State.Laws as S′
 use Rattle.converter.specs.Call.{obeyed}
 use Rattle.converter.specs.declared.Device.{Device}
@@ -132,5 +132,5 @@ unfolding code.routine
 store-spec 𝓤 H 𝓜 𝓖 𝓡 =
     let W = givenOf 𝓤 H 𝓜 𝓖 in
     walk-entered 𝓤 H 𝓜 𝓖 𝓡 code.env #board·store code.function (code.unfolded 𝓤 H 𝓜 𝓡) callees
-    (code.calls-registers·changes-zero, (code.calls-registers·zero-after, (code.calls-registers·restarts, (code.calls-panel·unused-zero, (code.calls-state·fresh, (code.calls-registers·changes-state, (code.calls-state·state-after, (code.calls-registers·copy-after, tt))))))))
+    (code.calls-answers·changes-zero, (code.calls-answers·zero-after, (code.calls-answers·restarts, (code.calls-panel·unused-zero, (code.calls-state·fresh, (code.calls-answers·changes-state, (code.calls-state·state-after, (code.calls-answers·copy-after, tt))))))))
     f.ended (f.clauses 𝓤 H (𝓖 .A) (𝓜 .mem) (𝓡 .run)) stayed (goes 𝓤 H (𝓖 .A) W (𝓜 .mem) (𝓡 .run)) (walks 𝓤 H (𝓖 .A) W (𝓜 .mem) (𝓡 .run))

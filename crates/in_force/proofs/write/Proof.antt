@@ -3,7 +3,7 @@ use mathlib.Core.Path.{_≡_, sym, ap, _∙_}
 use Prim.Native.Nat.{ℕ}
 use lib.Ieee.{Float}
 use lib.IntN.{ℤ}
-use Rattle.modbus.specs.Number.{SZ}
+use Rattle.register.specs.Number.{SZ}
 use Rattle.in_force.specs.declared.Setup.{Setup}
 use borrow.Author.Tests.{eq-eqb, ne-eqb}
 use Rattle.in_force.specs.InForce.{zeroSteps, withZero, withFigures, withCopy, setupWritten}

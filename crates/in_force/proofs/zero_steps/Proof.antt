@@ -3,9 +3,9 @@ use mathlib.Core.Path.{_≡_}
 use Rattle.integers.proofs.Machine.{held}
 use Rattle.binary32.specs.Received.{Computable}
 use Rattle.binary32.specs.declared.received.Range.{Range}
-use Rattle.modbus.specs.Number.{SZ}
-use Rattle.modbus.specs.Register.{rangeOf}
-use Rattle.modbus.proofs.Registers.{range-computable}
+use Rattle.register.specs.Number.{SZ}
+use Rattle.register.specs.Register.{rangeOf}
+use Rattle.register.proofs.Registers.{range-computable}
 use borrow.Author.Needs.{needs}
 use Rattle.in_force.proofs.zero_steps.Statement.{statement}
 use Rattle.in_force.proofs.zero_steps.Tie as tie

@@ -8,7 +8,7 @@ use mir.Facts.{toZ-ofZ}
 use borrow.Author.Needs.{needs, sfits-of}
 use Rattle.integers.proofs.Machine.{held}
 use Rattle.figures.specs.declared.Cell.{Cell}
-use Rattle.modbus.specs.Number.{CGAI, COFS, CMIN, CMAX}
+use Rattle.register.specs.Number.{CGAI, COFS, CMIN, CMAX}
 use Rattle.panel.specs.Figure.{put, cellWith}
 use Rattle.panel.proofs.cell_with.Statement.{statement}
 use Rattle.panel.proofs.cell_with.Tie as tie

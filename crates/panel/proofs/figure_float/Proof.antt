@@ -13,8 +13,8 @@ use Rattle.integers.proofs.Machine.{held}
 use Rattle.figures.specs.declared.Calibration.{Calibration}
 use Rattle.binary32.specs.Sent.{countFloat}
 use Rattle.binary32.specs.declared.received.Range.{Range}
-use Rattle.modbus.specs.Register.{rangeOf}
-use Rattle.modbus.proofs.Registers.{range-computable, whole-range, step-range}
+use Rattle.register.specs.Register.{rangeOf}
+use Rattle.register.proofs.Registers.{range-computable, whole-range, step-range}
 use Rattle.panel.specs.Figure.{figureAt, figureFloat}
 use borrow.Author.Needs.{needs}
 use Rattle.panel.proofs.figure_float.Statement.{statement}

@@ -8,7 +8,7 @@ use mir.Facts.{toZ-ofZ}
 use borrow.Author.Needs.{needs, sfits-of}
 use Rattle.integers.proofs.Machine.{held}
 use Rattle.figures.specs.declared.Filter.{Filter}
-use Rattle.modbus.specs.Number.{FFLV, FFST}
+use Rattle.register.specs.Number.{FFLV, FFST}
 use Rattle.panel.specs.Figure.{put, filterWith}
 use Rattle.panel.proofs.filter_with.Statement.{statement}
 use Rattle.panel.proofs.filter_with.Tie as tie

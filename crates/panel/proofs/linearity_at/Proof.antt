@@ -9,7 +9,7 @@ use mir.ValLaws.{toZ-pos}
 use borrow.Author.Needs.{sfits-of}
 use borrow.Author.Tests.{ne-eqb}
 use Rattle.figures.specs.declared.Linearity.{Linearity}
-use Rattle.modbus.specs.Number.{CLN, CLX, CLK}
+use Rattle.register.specs.Number.{CLN, CLX, CLK}
 use Rattle.panel.specs.Figure.{linearityAt}
 use Rattle.panel.proofs.Among.{below, above}
 use Rattle.panel.proofs.Columns.{clx-at, clk-at}

@@ -8,7 +8,7 @@ use mir.Facts.{toZ-ofZ}
 use borrow.Author.Needs.{needs, sfits-of}
 use Rattle.integers.proofs.Machine.{held}
 use Rattle.figures.specs.declared.LinearityPoint.{LinearityPoint}
-use Rattle.modbus.specs.Number.{CLX, CLK}
+use Rattle.register.specs.Number.{CLX, CLK}
 use Rattle.panel.specs.Figure.{put, linearityPointWith}
 use Rattle.panel.proofs.linearity_point_with.Statement.{statement}
 use Rattle.panel.proofs.linearity_point_with.Tie as tie

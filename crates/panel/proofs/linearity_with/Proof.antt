@@ -12,7 +12,7 @@ use borrow.Author.Needs.{needs, sfits-of}
 use Rattle.integers.proofs.Machine.{held}
 use Rattle.figures.specs.declared.Linearity.{Linearity}
 use Rattle.figures.specs.declared.LinearityPoint.{LinearityPoint}
-use Rattle.modbus.specs.Number.{CLN}
+use Rattle.register.specs.Number.{CLN}
 use Rattle.panel.specs.Figure.{put, numbered, linearityPointWith, linearityWith}
 use Rattle.panel.proofs.Places.{count-fits}
 use Rattle.panel.proofs.linearity_with.Statement.{statement}

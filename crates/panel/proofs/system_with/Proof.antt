@@ -8,7 +8,7 @@ use mir.Facts.{toZ-ofZ}
 use borrow.Author.Needs.{needs, sfits-of}
 use Rattle.integers.proofs.Machine.{held}
 use Rattle.figures.specs.declared.System.{System}
-use Rattle.modbus.specs.Number.{SGAI, SOFS, SMIN, SMAX}
+use Rattle.register.specs.Number.{SGAI, SOFS, SMIN, SMAX}
 use Rattle.panel.specs.Figure.{put, systemWith}
 use Rattle.panel.proofs.system_with.Statement.{statement}
 use Rattle.panel.proofs.system_with.Tie as tie

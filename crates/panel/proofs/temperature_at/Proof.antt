@@ -9,7 +9,7 @@ use mir.ValLaws.{toZ-pos}
 use borrow.Author.Needs.{sfits-of}
 use borrow.Author.Tests.{ne-eqb}
 use Rattle.figures.specs.declared.Temperature.{Temperature}
-use Rattle.modbus.specs.Number.{CTN, CT, CTG, CTO}
+use Rattle.register.specs.Number.{CTN, CT, CTG, CTO}
 use Rattle.panel.specs.Figure.{temperatureAt}
 use Rattle.panel.proofs.Among.{below, above}
 use Rattle.panel.proofs.Columns.{ct-at, ctg-at, cto-at}

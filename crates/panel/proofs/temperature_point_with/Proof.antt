@@ -8,7 +8,7 @@ use mir.Facts.{toZ-ofZ}
 use borrow.Author.Needs.{needs, sfits-of}
 use Rattle.integers.proofs.Machine.{held}
 use Rattle.figures.specs.declared.TemperaturePoint.{TemperaturePoint}
-use Rattle.modbus.specs.Number.{CT, CTG, CTO}
+use Rattle.register.specs.Number.{CT, CTG, CTO}
 use Rattle.panel.specs.Figure.{put, temperaturePointWith}
 use Rattle.panel.proofs.temperature_point_with.Statement.{statement}
 use Rattle.panel.proofs.temperature_point_with.Tie as tie

@@ -12,7 +12,7 @@ use borrow.Author.Needs.{needs, sfits-of}
 use Rattle.integers.proofs.Machine.{held}
 use Rattle.figures.specs.declared.Temperature.{Temperature}
 use Rattle.figures.specs.declared.TemperaturePoint.{TemperaturePoint}
-use Rattle.modbus.specs.Number.{CTN}
+use Rattle.register.specs.Number.{CTN}
 use Rattle.panel.specs.Figure.{put, numbered, temperaturePointWith, temperatureWith}
 use Rattle.panel.proofs.Places.{count-fits}
 use Rattle.panel.proofs.temperature_with.Statement.{statement}

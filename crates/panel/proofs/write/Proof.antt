@@ -7,8 +7,8 @@ use Rattle.integers.proofs.Machine.{held}
 use Rattle.figures.specs.declared.Calibration.{Calibration}
 use Rattle.binary32.specs.Received.{counted, Computable}
 use Rattle.binary32.specs.declared.received.Range.{Range}
-use Rattle.modbus.specs.Register.{rangeOf}
-use Rattle.modbus.proofs.Registers.{range-computable}
+use Rattle.register.specs.Register.{rangeOf}
+use Rattle.register.proofs.Registers.{range-computable}
 use Rattle.panel.specs.Figure.{withFigure, written, Counts}
 use Rattle.panel.proofs.Places.{counts-written}
 use borrow.Author.Needs.{needs}

@@ -6,11 +6,11 @@ use lib.ListN.{length}
 use denote.Ref.{now}
 use borrow.Author.Needs.{needs}
 use Rattle.modbus.specs.Reply.{Replied}
-use Rattle.registers.specs.Register.{numberOf}
-use Rattle.registers.specs.Within.{StateWithin}
+use Rattle.answers.specs.Register.{numberOf}
+use Rattle.answers.specs.Within.{StateWithin}
 use Rattle.in_force.specs.declared.Setup.{Setup}
 use Rattle.state.specs.declared.State.{State}
-use Rattle.registers.specs.declared.Answer.{Answer}
+use Rattle.answers.specs.declared.Answer.{Answer}
 use Rattle.converter.specs.Call.{replyWith}
 use Rattle.converter.specs.Reached.{Parts, Answering}
 use Rattle.converter.proofs.Sound.{state-within}

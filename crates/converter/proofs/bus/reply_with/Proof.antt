@@ -4,7 +4,7 @@ use mathlib.Core.List.{List}
 use Prim.Native.Nat.{ℕ}
 use borrow.Author.Needs.{needs}
 use Rattle.modbus.specs.Reply.{Replied}
-use Rattle.registers.specs.declared.Answer.{Answer}
+use Rattle.answers.specs.declared.Answer.{Answer}
 use Rattle.converter.specs.Call.{replyWith}
 use Rattle.converter.proofs.bus.reply_with.Statement.{statement}
 use Rattle.converter.proofs.bus.reply_with.Tie as tie

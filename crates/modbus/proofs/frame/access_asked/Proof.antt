@@ -5,8 +5,8 @@ use Prim.Native.Nat.{ℕ, _/_, _%_}
 use borrow.Author.Needs.{needs}
 use borrow.Author.Tests.{eq-eqb, ne-eqb}
 use denote.Ref.{now}
-use Rattle.modbus.specs.declared.register.Access.the-variants.{Unlisted}
-use Rattle.modbus.specs.Register.{accessOf}
+use Rattle.register.specs.declared.Access.the-variants.{Unlisted}
+use Rattle.register.specs.Register.{accessOf}
 use Rattle.modbus.specs.Frame.{wordAt, accessAsked}
 use Rattle.modbus.proofs.frame.access_asked.Statement.{statement}
 use Rattle.modbus.proofs.frame.access_asked.Tie as tie

@@ -6,7 +6,7 @@ use borrow.Author.Needs.{needs}
 use denote.Ref.{now}
 use lib.Dec.{eqb}
 use lib.Seq.{take-length}
-use Rattle.modbus.specs.Checksum.{checksumOf}
+use Rattle.checksum.specs.Checksum.{checksumOf}
 use Rattle.modbus.proofs.Checked.{all-taken}
 use Rattle.modbus.proofs.frame.checksum_right.Statement.{statement}
 use Rattle.modbus.proofs.frame.checksum_right.Tie as tie

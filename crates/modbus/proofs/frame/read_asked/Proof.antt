@@ -6,10 +6,10 @@ use Prim.Native.Nat.{ℕ, _/_, _%_}
 use borrow.Author.Tests.{eq-eqb, ne-eqb}
 use denote.Ref.{now}
 use lib.ListN.{length}
-use Rattle.modbus.specs.declared.register.Access.{Access}
-use Rattle.modbus.specs.declared.register.Access.the-variants.{Unlisted, ReadOnly, Takes, Action}
+use Rattle.register.specs.declared.Access.{Access}
+use Rattle.register.specs.declared.Access.the-variants.{Unlisted, ReadOnly, Takes, Action}
 use Rattle.modbus.specs.declared.frame.Frame.the-variants.{Read, Refused}
-use Rattle.modbus.specs.Register.{listed, accessOf}
+use Rattle.register.specs.Register.{listed, accessOf}
 use Rattle.modbus.specs.Frame.{wordAt, accessAsked, readOf, readAsked}
 use borrow.Author.Needs.{needs}
 use Rattle.modbus.proofs.frame.read_asked.Statement.{statement}

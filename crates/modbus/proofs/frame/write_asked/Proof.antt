@@ -7,17 +7,18 @@ use Prim.Native.Nat.{ℕ, _*_, _/_, _%_}
 use lib.Dec.{eqb}
 use Rattle.integers.proofs.Order.{pick}
 use Rattle.binary32.specs.Received.{Computable}
-use Rattle.modbus.specs.Number.{SZ}
-use Rattle.modbus.specs.Register.{accessOf, rangeIn}
-use Rattle.modbus.specs.declared.register.Access.the-variants.{Unlisted}
-use Rattle.modbus.proofs.Registers.{access-computable}
+use Rattle.register.specs.Number.{SZ}
+use Rattle.register.specs.Register.{accessOf, rangeIn}
+use Rattle.register.specs.declared.Access.the-variants.{Unlisted}
+use Rattle.register.proofs.Registers.{access-computable}
 use borrow.Author.Needs.{needs}
 use borrow.Author.Tests.{eq-eqb, ne-eqb}
 use denote.Ref.{now}
 use lib.ListN.{length}
 use lib.Ieee.{Float}
-use Rattle.modbus.specs.declared.register.Access.{Access}
-use Rattle.modbus.specs.Frame.{wordAt, byteAt, valueOf, accessAsked, registerOf, writeOf, writeAsked}
+use Rattle.register.specs.declared.Access.{Access}
+use Rattle.integers.specs.Bytes.{byteAt}
+use Rattle.modbus.specs.Frame.{wordAt, valueOf, accessAsked, registerOf, writeOf, writeAsked}
 use Rattle.modbus.proofs.frame.write_asked.Statement.{statement}
 use Rattle.modbus.proofs.frame.write_asked.Tie as tie
 

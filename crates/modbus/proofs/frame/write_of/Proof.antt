@@ -5,9 +5,9 @@ use Prim.Native.Nat.{ℕ}
 use borrow.Author.Needs.{needs}
 use lib.Ieee.{Float}
 use Rattle.binary32.specs.Received.{Computable}
-use Rattle.modbus.specs.declared.register.Access.{Access}
+use Rattle.register.specs.declared.Access.{Access}
 use Rattle.modbus.specs.declared.frame.Frame.the-variants.{Write, Refused}
-use Rattle.modbus.specs.Register.{rangeIn}
+use Rattle.register.specs.Register.{rangeIn}
 use Rattle.modbus.specs.Frame.{writeOf}
 use Rattle.modbus.proofs.frame.write_of.Statement.{statement}
 use Rattle.modbus.proofs.frame.write_of.Tie as tie

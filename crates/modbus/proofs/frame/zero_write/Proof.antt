@@ -5,8 +5,8 @@ use mathlib.Core.Bool.{Bool, cond}
 use lib.Ieee.{Float}
 use Rattle.binary32.specs.Received.{takes, zeroRange}
 use Rattle.modbus.specs.declared.frame.Frame.the-variants.{Write, Refused}
-use Rattle.modbus.specs.Number.{SZ}
-use Rattle.modbus.specs.Register.{accessOf}
+use Rattle.register.specs.Number.{SZ}
+use Rattle.register.specs.Register.{accessOf}
 use Rattle.modbus.specs.Frame.{writeOf}
 use Rattle.modbus.proofs.frame.zero_write.Statement.{statement}
 use Rattle.modbus.proofs.frame.zero_write.Tie as tie

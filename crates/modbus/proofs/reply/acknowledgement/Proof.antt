@@ -9,9 +9,9 @@ use denote.Ref.{now}
 use lib.ListN.{length, take}
 use lib.Seq.{length-take-le}
 use Rattle.integers.proofs.Words.{number-at}
-use Rattle.modbus.specs.Frame.{byteAt}
+use Rattle.integers.specs.Bytes.{byteAt}
 use Rattle.modbus.specs.Reply.{silent, answer, writeReply, Replied}
-use Rattle.modbus.proofs.Bytes.{bytes-taken}
+use Rattle.checksum.proofs.Bytes.{bytes-taken}
 use Rattle.modbus.proofs.Replies.{enough, replied, unreplied}
 use borrow.Author.Needs.{needs}
 use Rattle.modbus.proofs.reply.acknowledgement.Statement.{statement}

@@ -11,7 +11,7 @@ use lib.Dec.{eqb}
 use lib.ListN.{length}
 use Rattle.modbus.specs.Frame.{stationOf, functionOf}
 use Rattle.modbus.specs.Reply.{silent, answer, exceptionCode, exceptionReply, Replied}
-use Rattle.modbus.proofs.Bytes.{Bytes}
+use Rattle.checksum.proofs.Bytes.{Bytes}
 use Rattle.modbus.proofs.Replies.{enough, framed-enough, replied, unreplied}
 use borrow.Author.Needs.{needs}
 use Rattle.modbus.proofs.reply.exception.Statement.{statement}

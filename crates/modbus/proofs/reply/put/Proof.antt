@@ -9,7 +9,7 @@ use denote.Ref.{now}
 use lib.ListN.{length, set, drop, length-set}
 use lib.Seq.{sets, sets-eq}
 use Rattle.integers.specs.Bytes.{wordBytes}
-use Rattle.modbus.specs.Checksum.{checksumOf, framed}
+use Rattle.checksum.specs.Checksum.{checksumOf, framed}
 use Rattle.integers.proofs.Words.{length-bytes}
 use Rattle.modbus.proofs.Replies.{length-framed}
 use Rattle.modbus.proofs.reply.put.Statement.{statement}

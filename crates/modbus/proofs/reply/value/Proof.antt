@@ -12,7 +12,7 @@ use lib.ListN.{length}
 use Rattle.binary32.specs.Wire.{wireBytes, sent}
 use Rattle.modbus.specs.Frame.{stationOf}
 use Rattle.modbus.specs.Reply.{silent}
-use Rattle.modbus.proofs.Bytes.{Bytes}
+use Rattle.checksum.proofs.Bytes.{Bytes}
 use Rattle.modbus.proofs.Replies.{enough, framed-enough, replied, unreplied}
 use borrow.Author.Needs.{needs}
 use Rattle.modbus.proofs.reply.value.Statement.{statement}

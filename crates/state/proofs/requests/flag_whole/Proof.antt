@@ -12,9 +12,9 @@ use Rattle.integers.proofs.Machine.{held}
 use Rattle.binary32.specs.Received.{counted, Computable}
 use Rattle.binary32.specs.declared.received.Range.{Range}
 use Rattle.binary32.proofs.Counted.{counted-up}
-use Rattle.modbus.specs.Number.{FLAG}
-use Rattle.modbus.specs.Register.{accessOf, rangeOf}
-use Rattle.modbus.proofs.Registers.{range-computable}
+use Rattle.register.specs.Number.{FLAG}
+use Rattle.register.specs.Register.{accessOf, rangeOf}
+use Rattle.register.proofs.Registers.{range-computable}
 use borrow.Author.Needs.{needs}
 use Rattle.state.proofs.requests.flag_whole.Statement.{statement}
 use Rattle.state.proofs.requests.flag_whole.Tie as tie

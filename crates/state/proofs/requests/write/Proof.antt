@@ -4,7 +4,7 @@ use Prim.Native.Nat.{ℕ}
 use borrow.Author.Tests.{eq-eqb, ne-eqb}
 use lib.Bits.{bitAnd}
 use lib.Ieee.{Float}
-use Rattle.modbus.specs.Number.{FLAG}
+use Rattle.register.specs.Number.{FLAG}
 use Rattle.state.specs.declared.State.{State}
 use Rattle.state.specs.Request.{flagWhole, flagged}
 use Rattle.state.proofs.requests.write.Statement.{statement}

@@ -1,6 +1,6 @@
 -- Each case of `vectors::checksums::cases` computes to what is expected. Assumes nothing.
 use borrow.Author.Needs.{needs}
-use Rattle.modbus.specs.Checksum.{taken}
+use Rattle.checksum.specs.Checksum.{taken}
 use Rattle.vectors.proofs.checksums.cases.Statement.{statement}
 use Rattle.vectors.proofs.checksums.cases.Tie as tie
 

@@ -1,7 +1,7 @@
 -- `vectors::checksums::is` meets its contract. Assumes nothing.
 use mathlib.Core.Path.{_∙_, ap}
 use lib.Seq.{take-length}
-use Rattle.modbus.specs.Checksum.{checksumOf}
+use Rattle.checksum.specs.Checksum.{checksumOf}
 use borrow.Author.Tests.{eq-eqb}
 use borrow.Author.Needs.{needs}
 use Rattle.vectors.proofs.checksums.is.Statement.{statement}

@@ -1,7 +1,7 @@
 -- `vectors::received::zero_is` meets its contract. Assumes nothing.
 use mathlib.Core.Path.{_∙_, ap}
 use Rattle.binary32.specs.Received.{takes, zeroRange}
-use Rattle.modbus.specs.Register.{accessOf, rangeOf}
+use Rattle.register.specs.Register.{accessOf, rangeOf}
 use borrow.Author.Needs.{needs}
 use Rattle.vectors.proofs.received.zero_is.Statement.{statement}
 use Rattle.vectors.proofs.received.zero_is.Tie as tie

@@ -2,7 +2,7 @@
 use mathlib.Core.Path.{_∙_, ap}
 use mathlib.Core.Bool.{not}
 use Rattle.binary32.specs.Received.{takes, zeroRange}
-use Rattle.modbus.specs.Register.{accessOf, rangeOf}
+use Rattle.register.specs.Register.{accessOf, rangeOf}
 use borrow.Author.Needs.{needs}
 use Rattle.vectors.proofs.received.zero_unfit.Statement.{statement}
 use Rattle.vectors.proofs.received.zero_unfit.Tie as tie
