@@ -1,7 +1,9 @@
 // What a frame is answered with, and the registers as they read (01, "The bus"; Change 1).
 ghost use mathlib.Core.Path.{_≡_};
 ghost use Rattle.panel.specs.Figure.{InRange};
-ghost use Rattle.answers.specs.Register.{stepsAt, readingFloat, readingAt, panelAt, registerAt, onReading, onCopy, answered};
+ghost use mathlib.Core.Bool.{true};
+ghost use Rattle.answers.specs.Parts.{isRead};
+ghost use Rattle.answers.specs.Register.{stepsAt, readingFloat, readingAt, panelAt, registerAt, answered};
 ghost use Rattle.answers.specs.Within.{StateWithin};
 ghost use Rattle.state.specs.Within.{ReadingsWithin};
 mod parts;
@@ -11,7 +13,6 @@ use binary32::sent::float_of_whole;
 use figures::Calibration;
 use modbus::frame::Frame;
 use in_force::Setup;
-use in_force::copy_fits;
 use state::Readings;
 use state::State;
 pub use parts::applies;
@@ -20,6 +21,7 @@ pub use parts::changes_zero;
 pub use parts::copy_after;
 pub use parts::is_obeyed;
 pub use parts::is_read;
+pub use parts::obeys;
 pub use parts::refusal;
 pub use parts::restarts;
 pub use parts::zero_after;
@@ -104,46 +106,17 @@ fn register_at(state: State, sz: i64, copy: Calibration, register: u32) -> Answe
     reading_at(state.readings, register)
 }
 
-fn on_reading(state: State) -> Answer
-    ensures { λ a. ⌜ a ≡ onReading state ⌝ }
-{
-    let readings = state.readings;
-    if readings.any {
-        return Answer::Done;
-    }
-    Answer::Refused(10)
-}
-
-fn on_copy(setup: Setup) -> Answer
-    ensures { λ a. ⌜ a ≡ onCopy setup ⌝ }
-{
-    if copy_fits(setup) {
-        return Answer::Done;
-    }
-    Answer::Refused(17)
-}
-
-// RST is done at any time, 99 where the copy fits, SNAP and peak reset after a reading.
-pub fn answer_to(state: State, setup: Setup, frame: Frame) -> Answer
-    requires { ⌜ StateWithin state (setup .figures .system .sz) (setup .copy) ⌝ }
+// A read is answered with the register.
+pub fn answer_to_read(state: State, setup: Setup, frame: Frame) -> Answer
+    requires { ⌜ (isRead frame ≡ true) × StateWithin state (setup .figures .system .sz) (setup .copy) ⌝ }
     ensures { λ a. ⌜ a ≡ answered state setup frame ⌝ }
 {
     match frame {
-        Frame::Refused(number) => Answer::Refused(number),
         Frame::Read(register) => {
             let figures = setup.figures;
             let system = figures.system;
             register_at(state, system.sz, setup.copy, register)
         }
-        Frame::Act(register) => {
-            if register == register::RST {
-                return Answer::Done;
-            }
-            if register == register::APPLY {
-                return on_copy(setup);
-            }
-            on_reading(state)
-        }
-        Frame::Write(_, _) => Answer::Done,
+        _ => Answer::Done,
     }
 }

@@ -1,9 +1,11 @@
 // A frame by tests, for a record that is kept in place: what it is, and which part of the record it can change.
 ghost use mathlib.Core.Path.{_≡_};
-ghost use Rattle.answers.specs.Parts.{isRead, applies as appliesBy, isObeyed, refusalOf, changesZero, restarts as restartsBy, changesState, zeroBy, copyBy};
+ghost use Rattle.answers.specs.Parts.{isRead, applies as appliesBy, isObeyed, obeys as obeysBy, refusalOf, changesZero, restarts as restartsBy, changesState, zeroBy, copyBy};
 use figures::Calibration;
+use in_force::Setup;
 use modbus::frame::Frame;
 use state::Readings;
+use state::State;
 
 // A read: it is answered with a value, or refused.
 pub fn is_read(frame: Frame) -> bool
@@ -39,6 +41,16 @@ pub fn is_obeyed(readings: Readings, frame: Frame) -> bool
         }
         _ => false,
     }
+}
+
+// A write or an action that is obeyed, 99 where the copy fits.
+pub fn obeys(state: State, setup: Setup, frame: Frame) -> bool
+    ensures { λ r. ⌜ r ≡ obeysBy state setup frame ⌝ }
+{
+    if applies(frame) {
+        return in_force::copy_fits(setup);
+    }
+    is_obeyed(state.readings, frame)
 }
 
 // The number of a frame that is neither: its own, 17 of 99, or 10.

@@ -1,6 +1,9 @@
 -- The functions that `converter_frame` calls and lends the frame, the reply or the record to, and what each asks, from what the walk has of these. Assumes `Given`.
 use denote.Enum.Laws as EL
 use denote.Struct.Laws as LL
+use mathlib.Core.Path.{_≡_}
+use mathlib.Core.Bool.{true}
+use Rattle.answers.specs.Parts.{isRead}
 use Rattle.modbus.specs.declared.frame.Frame.{Frame}
 use Rattle.modbus.proofs.frame.Frame as R
 use Rattle.modbus.proofs.frame.Frame.Laws as R′
@@ -76,10 +79,10 @@ abbrev lent : {M : Type 1} (𝓤 : URA M) (H : Heap 𝓤) (A : Atoms 𝓤) (W : 
 lent 𝓤 H A W κ₁ κ₂ q₁ q₂ xf xr = ((‵ (flft κ₁ q₁) ⊛ ‵ ftrue) ⊛ (‵ (flft κ₂ q₂) ⊛ ‵ ftrue)) ∷ bytes 𝓤 κ₁ xf ∷ ‵ (MutSlice (named 1) κ₂ u8 .own xr (slice xr ∷ [])) ∷ []
 
 module _ {M : Type 1} (𝓤 : URA M) (H : Heap 𝓤) (A : Atoms 𝓤) (W : Given 𝓤 H A) (mem-at : Memory → SProp 𝓤) (run : Routine → Fun 𝓤) (κ₁ κ₂ : Lft) (q₁ q₂ : Share) (xf xr : RefT (List ℕ)) (h : Device) (a : Frame) (va : Val) where
-  pub answer-asks : Reached h → IsDevice h → Is R.the-row a (va ∷ []) → ent 𝓤 (⋆ 𝓤 H A (lent 𝓤 H A W κ₁ κ₂ q₁ q₂ xf xr)) (triple 𝓤 H A mem-at run answer .pre (to-answer 𝓤 H A κ₁ κ₂ q₁ q₂ xf xr h a va, tt))
-  answer-asks reached was a-is =
+  pub answer-asks : isRead a ≡ true → Reached h → IsDevice h → Is R.the-row a (va ∷ []) → ent 𝓤 (⋆ 𝓤 H A (lent 𝓤 H A W κ₁ κ₂ q₁ q₂ xf xr)) (triple 𝓤 H A mem-at run answer .pre (to-answer 𝓤 H A κ₁ κ₂ q₁ q₂ xf xr h a va, tt))
+  answer-asks is-so reached was a-is =
       qed W (lent 𝓤 H A W κ₁ κ₂ q₁ q₂ xf xr) ∵ split ! $ split ! $ move ! (1 ∷ []) $ drop ! $ join ! $
-      says ! (record { device = h; reached = reached; state-is = refl; setup-is = refl }) $ frame ! $ nothing ! $ move ! (2 ∷ 0 ∷ []) $ fjoin ! $ move ! (1 ∷ 0 ∷ []) $ fjoin ! $
+      says ! (is-so, record { device = h; reached = reached; state-is = refl; setup-is = refl }) $ frame ! $ nothing ! $ move ! (2 ∷ 0 ∷ []) $ fjoin ! $ move ! (1 ∷ 0 ∷ []) $ fjoin ! $
       owned ! R.the-row (Is R.the-row) (EL.makes R.the-type R′.the-plain 𝓤 H A) a (va ∷ []) a-is $ fjoin ! $ owned ! U.the-row (Is U.the-row) (LL.makes U.the-type U′.the-plain 𝓤 H A) (h .setup) _ (setup-is h was) $ fjoin ! $
       owned ! S.the-row (Is S.the-row) (LL.makes S.the-type S′.the-plain 𝓤 H A) (h .state) _ (state-is h was) $ fjoin ! $ done !
 

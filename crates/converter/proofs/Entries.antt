@@ -32,6 +32,8 @@ use Rattle.state.specs.declared.State.{State}
 use Rattle.converter.specs.Call as call
 use Rattle.converter.specs.Call.{obeyed, step, number, answerTo}
 use Rattle.converter.specs.Reached.{Reached, Answering, Reading, Serving}
+use Rattle.answers.specs.declared.Answer.{Answer}
+use Rattle.converter.specs.declared.bus.Answered.{Answered}
 use Rattle.converter.specs.declared.Device.{Device}
 use Rattle.converter.specs.declared.Outcome.{Outcome}
 use Rattle.converter.proofs.Sound.{good-elec, held-within}
@@ -107,15 +109,17 @@ read-unobeyed d (Read n) e = refl
 read-unobeyed d (Write r x) e = absurd (false≢true e)
 read-unobeyed d (Act r) e = absurd (false≢true e)
 
-pub serves : {d : Device} → Reached d → (bytes before after : List ℕ) {f : Frame} {n m : ℕ} {s : Setup} {t : State}
-    → f ≡ judged bytes (length before) (d .setup .station) → Answering (answered (d .state) (d .setup) f) bytes before after (record { number = n; length = m })
-    → s ≡ setupBy (d .setup) f → t ≡ stateBy (d .state) f → Serving d bytes before after (record { number = n; length = m; device = record { setup = s; state = t } })
+-- what is replied and what is left of the device keep the contract, by the answer x that the frame is due
+pub serves : {d : Device} → Reached d → (bytes before after : List ℕ) {f : Frame} {r : Answered} {e : Device} {x : Answer}
+    → f ≡ judged bytes (length before) (d .setup .station) → answered (d .state) (d .setup) f ≡ x → Answering x bytes before after r → e ≡ obeyed d f
+    → Serving d bytes before after (record { number = r .number; length = r .length; device = e })
 unfolding answerTo
-serves {d} h bytes before after {s} {t} what answers setup-is state-is =
-    let after-it : record { setup = s; state = t } ≡ step d (call.frame bytes (length before)) = rw (setup-is, state-is, what) in
+serves {d} h bytes before after {f} {r} {e} {x} what due answers is =
+    let to-it : x ≡ answerTo d bytes (length before) = sym due ∙ ap (answered (d .state) (d .setup)) what in
+    let after-it : e ≡ step d (call.frame bytes (length before)) = is ∙ ap (obeyed d) what in
     record {
-      number-is = answers .number-is ∙ ap (λ (g : Frame). numberOf (answered (d .state) (d .setup) g)) what;
+      number-is = answers .number-is ∙ ap numberOf to-it;
       device-is = after-it;
-      replied = rw what at answers .replied;
+      replied = rw to-it at answers .replied;
       reached = subst Reached (sym after-it) (reached-step h (call.frame bytes (length before)));
     }

@@ -1,9 +1,10 @@
 // What the bus does with the parts of a device (01, "The bus").
 ghost use mathlib.Core.Path.{_≡_};
+ghost use mathlib.Core.Bool.{true};
 ghost use lib.ListN.{length};
 ghost use Rattle.modbus.specs.Reply.{Replied};
 ghost use Rattle.answers.specs.Register.{answered, numberOf};
-ghost use Rattle.answers.specs.Parts.{refusalOf};
+ghost use Rattle.answers.specs.Parts.{isRead, refusalOf};
 ghost use Rattle.answers.specs.declared.Answer.the-variants.{Done, Refused};
 ghost use Rattle.converter.specs.Call.{replyWith};
 ghost use Rattle.converter.specs.Reached.{Parts, Answering};
@@ -40,7 +41,7 @@ fn reply_with(frame: &[u8], reply: &mut [u8], answer: Answer) -> usize
     }
 }
 
-// What a judged frame asks is answered, and the reply to its bytes written.
+// A read is answered, and the reply to its bytes written.
 pub fn answer(
     state: State,
     setup: Setup,
@@ -48,10 +49,10 @@ pub fn answer(
     frame: &[u8],
     reply: &mut [u8],
 ) -> Answered
-    requires { ⌜ Parts state setup ⌝ }
+    requires { ⌜ (isRead request ≡ true) × Parts state setup ⌝ }
     ensures { λ r. ⌜ Answering (answered state setup request) (now (frame .entry)) (now (reply .entry)) (now (reply .exit)) r ⌝ }
 {
-    let answer = answers::answer_to(state, setup, request);
+    let answer = answers::answer_to_read(state, setup, request);
     let length = reply_with(frame, reply, answer);
     let number = number_in(answer);
     Answered { number, length }

@@ -2,6 +2,7 @@
 // device that a making and these calls gave; it answers 0, or the number of 01's table of turned-down calls.
 ghost use mathlib.Core.Path.{_≡_};
 ghost use Rattle.state.specs.Report.{reported};
+ghost use Rattle.converter.specs.Call.{obeyed};
 ghost use Rattle.converter.specs.Reached.{Reached, Making, Reading, Serving};
 
 mod bus;
@@ -13,6 +14,7 @@ pub use bus::answer;
 pub use bus::refuse;
 use state::Reported;
 use in_force::Setup;
+use modbus::frame::Frame;
 use state::State;
 
 #[repr(C)]
@@ -104,16 +106,36 @@ impl Device {
         requires { ⌜ Reached self ⌝ }
         ensures { λ r. ⌜ Serving self (now (frame .entry)) (now (reply .entry)) (now (reply .exit)) r ⌝ }
     {
-        let before = self.setup;
-        let request = modbus::frame::judge(frame, reply.len(), before.station);
-        let answered = bus::answer(self.state, before, request, frame, reply);
-        let setup = in_force::setup_after(before, request);
-        let state = state::state_after(self.state, request);
-        let device = Device { setup, state };
-        Served {
-            number: answered.number,
-            length: answered.length,
-            device,
+        let setup = self.setup;
+        let asked = modbus::frame::judge(frame, reply.len(), setup.station);
+        if answers::is_read(asked) {
+            let read = bus::answer(self.state, setup, asked, frame, reply);
+            return serve(read, self);
         }
+        if answers::obeys(self.state, setup, asked) {
+            let done = bus::acknowledge(frame, reply);
+            return serve(done, self.obey(asked));
+        }
+        let refused = bus::refuse(asked, frame, reply);
+        serve(refused, self)
+    }
+
+    // A judged frame that is obeyed.
+    fn obey(self, asked: Frame) -> Device
+        ensures { λ r. ⌜ r ≡ obeyed self asked ⌝ }
+    {
+        let setup = in_force::setup_after(self.setup, asked);
+        let state = state::state_after(self.state, asked);
+        Device { setup, state }
+    }
+}
+
+fn serve(answered: Answered, device: Device) -> Served
+    ensures { λ r. ⌜ r ≡ record { number = answered .number; length = answered .length; device = device } ⌝ }
+{
+    Served {
+        number: answered.number,
+        length: answered.length,
+        device,
     }
 }

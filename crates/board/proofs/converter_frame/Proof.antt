@@ -69,11 +69,6 @@ module _ {M : Type 1} (𝓤 : URA M) (H : Heap 𝓤) (A : Atoms 𝓤) (W : Given
       nothing ! $ move ! (2 ∷ 0 ∷ []) $ fjoin ! $ nothing ! $ fjoin ! $ move ! (1 ∷ 0 ∷ []) $ fjoin ! $
       owned ! B.the-row (Is B.the-row) (LL.makes B.the-type B′.the-plain 𝓤 H A) r (v ∷ []) is $ move ! (1 ∷ 0 ∷ []) $ done !
 
-  -- the calls together keep the contract, by the answer that the frame is due
-  served : (a : Frame) (r : Answered) (zs : List ℕ) {d : Device} {x : Answer} → a ≡ judged (xf .now) (length (xr .now)) (h .setup .station) → answered (h .state) (h .setup) a ≡ x → Answering x (xf .now) (xr .now) zs r → d ≡ obeyed h a
-      → Serving h (xf .now) (xr .now) zs (record { number = r .number; length = r .length; device = d })
-  served a r zs asked due replies obeys = rw obeys (serves reached (xf .now) (xr .now) zs asked (rw due replies) refl refl)
-
   module _ (C : Calls 𝓤 H) (Λ : Loops 𝓤 H) (fm : FmC 𝓤 H (W .laws) C) (known-of : AllKnown 𝓤 H A at-mem run C callees) where
     walk : ent 𝓤 (onEntry 𝓤 H A f.signature (κ, (κ₁, (κ₂, tt))) (q, (q₁, (q₂, tt))) x at) (WpFn 𝓤 H C Λ code.function (vptr b o ∷ slice xf ∷ slice xr ∷ []) Post)
     walk =
@@ -96,7 +91,7 @@ module _ {M : Type 1} (𝓤 : URA M) (H : Heap 𝓤) (A : Atoms 𝓤) (W : Given
         assigns ! (agg ! (and-then ! (load ! (from ! (stop !)) (look ! 23 refl)) (and-then ! (load ! (from ! (fld ! refl (stop !))) (look-in ! 37 (sub ! 1 refl (whole !)))) (no-more !)))) (from ! (stop !)) (init ! 21 refl (tt, (tt, (record { fits = room-r .0 }, tt)))) $
         move ! (0 ∷ 2 ∷ []) $ join ! $ move ! (0 ∷ 1 ∷ 6 ∷ []) $ group ! 3 $
         -- [what `answer` asks; the record's cell; the open borrow; obs; auth; true; _17; …]
-        calls-out ! fm answer (known-of .1 .1 .0) (to-answer 𝓤 H A κ₁ κ₂ q₁ q₂ xf xr h a va) tt (answer-asks 𝓤 H A W at-mem run κ₁ κ₂ q₁ q₂ xf xr h a va reached was a-is)
+        calls-out ! fm answer (known-of .1 .1 .0) (to-answer 𝓤 H A κ₁ κ₂ q₁ q₂ xf xr h a va) tt (answer-asks 𝓤 H A W at-mem run κ₁ κ₂ q₁ q₂ xf xr h a va read reached was a-is)
         (λ r zs. Answering (answered (h .state) (h .setup) a) (xf .now) (xr .now) (zs .1 .1 .1 .1 .0) r) (λ r zs. id⊢ 𝓤 _) (local ! 24 refl (local ! 22 refl (local ! 32 refl (local ! 36 refl (local ! 18 refl (no-more !)))))) 39 refl refl (λ w r zs e r-is.
         -- of the last values only the reply's says anything: its list, and that it is as long as the one lent
         fsplit ! $ drop ! $ fsplit ! $ drop ! $ fsplit ! $ drop ! $ fsplit ! $ drop ! $ fsplit ! $ fsplit ! $ move ! (1 ∷ []) $ feqL ! (λ l. move ! (2 ∷ []) $
@@ -104,7 +99,7 @@ module _ {M : Type 1} (𝓤 : URA M) (H : Heap 𝓤) (A : Atoms 𝓤) (W : Given
         move ! (3 ∷ 4 ∷ 5 ∷ 6 ∷ []) $ gives-record ! tt h was $
         -- [the record's last value; its token; the other tokens; the last list; true; true; _17; …]
         returns-within ! Post refl (look ! 40 refl) $ frees-all ! 6 (some _ ∷ some _ ∷ some _ ∷ some _ ∷ some _ ∷ some _ ∷ some _ ∷ some _ ∷ some _ ∷ some _ ∷ some _ ∷ some _ ∷ []) refl $
-        keep ! (0 ∷ 1 ∷ 2 ∷ 3 ∷ []) $ by ! (exits r w h (zs .1 .1 .1 .1 .0) r-is (served a r (zs .1 .1 .1 .1 .0) asked refl e (sym (read-unobeyed h a read))) l))))
+        keep ! (0 ∷ 1 ∷ 2 ∷ 3 ∷ []) $ by ! (exits r w h (zs .1 .1 .1 .1 .0) r-is (serves reached (xf .now) (xr .now) (zs .1 .1 .1 .1 .0) asked refl e (sym (read-unobeyed h a read))) l))))
         (λ no-read. skips-to ! t-6 Post $ assigns ! (addr ! (from ! (hop ! (look ! 41 refl) (stop !)))) (from ! (stop !)) (init ! 17 refl (tt, tt)) $ move ! (3 ∷ 4 ∷ 5 ∷ 6 ∷ []) $ closes-record ! tt h was $ group ! 3 $
         -- [what `obey` asks; the frame's token; the frame; the reply's token; the reply; true; _17; …]
         calls-out ! fm obey (known-of .1 .1 .1 .0) (to-obey 𝓤 H A κ q b o γ h a va) tt (obey-asks 𝓤 H A W at-mem run κ q b o γ h a va a-is) (λ d ds. (d ≡ obeys (h .state) (h .setup) a) × (ds .0 ≡ obeyed h a)) (λ d ds. id⊢ 𝓤 _)
@@ -119,7 +114,7 @@ module _ {M : Type 1} (𝓤 : URA M) (H : Heap 𝓤) (A : Atoms 𝓤) (W : Given
         (local ! 34 refl (local ! 8 refl (no-more !))) 37 refl refl (λ w r zs e r-is. fsplit ! $ drop ! $ fsplit ! $ fsplit ! $ move ! (1 ∷ []) $ feqL ! (λ l. move ! (2 ∷ []) $
         -- [the other tokens; the last list; true; the record's last value; its token; true; _17; …]
         returns-within ! Post refl (look ! 40 refl) $ frees-all ! 6 (some _ ∷ some _ ∷ some _ ∷ some _ ∷ some _ ∷ some _ ∷ some _ ∷ some _ ∷ none ∷ none ∷ none ∷ none ∷ some _ ∷ some _ ∷ some _ ∷ some _ ∷ []) refl $
-        keep ! (3 ∷ 4 ∷ 0 ∷ 1 ∷ []) $ by ! (exits r w (ds .0) (zs .1 .0) r-is (served a r (zs .1 .0) asked (answer-obeyed (h .state) (h .setup) a done-so) e (told .1)) l))))
+        keep ! (3 ∷ 4 ∷ 0 ∷ 1 ∷ []) $ by ! (exits r w (ds .0) (zs .1 .0) r-is (serves reached (xf .now) (xr .now) (zs .1 .0) asked (answer-obeyed (h .state) (h .setup) a done-so) e (told .1)) l))))
         (λ not-so. skips-to ! t-9 Post $
         assigns ! (addr ! (from ! (fld ! refl (hop ! (look-in ! 35 (sub ! 0 refl (whole !))) (stop !))))) (from ! (stop !)) (init ! 9 refl (tt, tt)) $
         assigns ! (agg ! (and-then ! (load ! (from ! (stop !)) (look ! 9 refl)) (and-then ! (load ! (from ! (fld ! refl (stop !))) (look-in ! 35 (sub ! 1 refl (whole !)))) (no-more !)))) (from ! (stop !)) (init ! 7 refl (tt, (tt, (record { fits = room-r .0 }, tt)))) $
@@ -128,7 +123,7 @@ module _ {M : Type 1} (𝓤 : URA M) (H : Heap 𝓤) (A : Atoms 𝓤) (W : Given
         calls-out ! fm refuse (known-of .1 .1 .1 .1 .1 .0) (to-refuse 𝓤 H A κ₁ κ₂ q₁ q₂ xf xr a va) tt (refuse-asks 𝓤 H A W at-mem run κ₁ κ₂ q₁ q₂ xf xr a va a-is) (λ r zs. Answering (Refused (refusalOf a)) (xf .now) (xr .now) (zs .1 .1 .0) r) (λ r zs. id⊢ 𝓤 _)
         (local ! 30 refl (local ! 34 refl (local ! 4 refl (no-more !)))) 37 refl refl (λ w r zs e r-is. fsplit ! $ drop ! $ fsplit ! $ drop ! $ fsplit ! $ fsplit ! $ move ! (1 ∷ []) $ feqL ! (λ l. move ! (2 ∷ []) $
         returns ! (look ! 40 refl) $ frees-all ! 6 (some _ ∷ some _ ∷ some _ ∷ some _ ∷ some _ ∷ some _ ∷ some _ ∷ some _ ∷ none ∷ none ∷ none ∷ none ∷ some _ ∷ some _ ∷ none ∷ none ∷ some _ ∷ some _ ∷ []) refl $
-        keep ! (3 ∷ 4 ∷ 0 ∷ 1 ∷ []) $ by ! (exits r w (ds .0) (zs .1 .1 .0) r-is (served a r (zs .1 .1 .0) asked (answer-refused (h .state) (h .setup) a no-read not-so) e (told .1)) l)))))))))))))))))))))))))))
+        keep ! (3 ∷ 4 ∷ 0 ∷ 1 ∷ []) $ by ! (exits r w (ds .0) (zs .1 .1 .0) r-is (serves reached (xf .now) (xr .now) (zs .1 .1 .0) asked (answer-refused (h .state) (h .setup) a no-read not-so) e (told .1)) l)))))))))))))))))))))))))))
 
 module _ {M : Type 1} (𝓤 : URA M) (H : Heap 𝓤) (A : Atoms 𝓤) (W : Given 𝓤 H A) (mem : Memory → SProp 𝓤) (run : Routine → Fun 𝓤) where
   walks : (C : Calls 𝓤 H) (Λ : Loops 𝓤 H) → FmC 𝓤 H (W .laws) C → AllKnown 𝓤 H A mem run C callees → Walks 𝓤 H A f.ended stayed (WpFn 𝓤 H C Λ code.function) (f.clauses 𝓤 H A mem run)

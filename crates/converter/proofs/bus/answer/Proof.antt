@@ -24,15 +24,15 @@ answers bytes before after e h k = record { number-is = k ∙ ap numberOf e; rep
 within : {s : State} {t : Setup} → Parts s t → StateWithin s (t .figures .system .sz) (t .copy)
 within h = rw (← h .state-is, ← h .setup-is) (state-within (reached-sound (h .reached)))
 
-answer-to-requires : tie.Need-answer-to-requires
-answer-to-requires c κs = within (c .before .before .pre)
+answer-to-read-requires : tie.Need-answer-to-read-requires
+answer-to-read-requires c κs = let p = c .before .before .pre in (p .0, within (p .1))
 
 returns : tie.Need-returns
 returns c =
     let b = c .before .before .before in
     let a = b .before .before in
     let s = a .before .before .before in
-    answers (now (s .args .frame)) (now (s .args .reply)) _ (a .answer-to .ensures) (b .reply-with .ensures) (c .number-in .ensures)
+    answers (now (s .args .frame)) (now (s .args .reply)) _ (a .answer-to-read .ensures) (b .reply-with .ensures) (c .number-in .ensures)
 
 pub answer-spec : {M : Type 1} → statement M
-answer-spec = tie.close (tie.spec answer-to-requires (λ c κs. search needs) (λ c κs. search needs) (λ c. search needs) returns)
+answer-spec = tie.close (tie.spec answer-to-read-requires (λ c κs. search needs) (λ c κs. search needs) (λ c. search needs) returns)
