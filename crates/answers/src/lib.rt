@@ -6,15 +6,14 @@ ghost use Rattle.answers.specs.Parts.{isRead};
 ghost use Rattle.answers.specs.Register.{stepsAt, readingFloat, readingAt, panelAt, registerAt, answered};
 ghost use Rattle.answers.specs.Within.{StateWithin};
 ghost use Rattle.state.specs.Within.{ReadingsWithin};
+
 mod parts;
 
 use binary32::sent::float_of_steps;
 use binary32::sent::float_of_whole;
 use figures::Calibration;
-use modbus::frame::Frame;
 use in_force::Setup;
-use state::Readings;
-use state::State;
+use modbus::frame::Frame;
 pub use parts::applies;
 pub use parts::changes_state;
 pub use parts::changes_zero;
@@ -25,6 +24,8 @@ pub use parts::obeys;
 pub use parts::refusal;
 pub use parts::restarts;
 pub use parts::zero_after;
+use state::Readings;
+use state::State;
 
 // A value to send; done, and no value to send; or the number that the frame is turned down with.
 pub enum Answer {

@@ -8,9 +8,9 @@ ghost use Rattle.answers.specs.Parts.{isRead, refusalOf};
 ghost use Rattle.answers.specs.declared.Answer.the-variants.{Done, Refused};
 ghost use Rattle.converter.specs.Call.{replyWith};
 ghost use Rattle.converter.specs.Reached.{Parts, Answering};
-use modbus::frame::Frame;
 use answers::Answer;
 use in_force::Setup;
+use modbus::frame::Frame;
 use state::State;
 
 // The number, 0 where the frame was obeyed, and the length replied, 0 for none.

@@ -12,9 +12,9 @@ pub use bus::Answered;
 pub use bus::acknowledge;
 pub use bus::answer;
 pub use bus::refuse;
-use state::Reported;
 use in_force::Setup;
 use modbus::frame::Frame;
+use state::Reported;
 use state::State;
 
 #[repr(C)]

@@ -4,7 +4,6 @@ ghost use Rattle.in_force.specs.InForce.{zeroSteps, offered, accepted, c
 use figures::Calibration;
 use modbus::frame::Frame;
 
-
 // The figures in force, SZ as last written among them; the waiting copy, whose own SZ is not looked at; and the station.
 #[repr(C)]
 pub struct Setup {
