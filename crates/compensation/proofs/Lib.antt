@@ -5,6 +5,7 @@ pub mod Held
 pub mod Magnitudes
 pub mod FilterHull
 pub mod FilterCases
+pub mod Filtered
 pub mod StatBits
 pub mod Flags
 pub mod Faithful

@@ -1,5 +1,6 @@
 pub mod Hold
 pub mod Filter
+pub mod Filtered
 pub mod Reading
 pub mod Exact
 pub mod Stat
