@@ -50,7 +50,7 @@ module _ (c : Calibration) (elec temp : ℤ) (ok : Acceptable c) (held : elec wi
       near-gain 64 (c .cell .cgai) one one-above (omega (arith, ok .cell-ok .cgai-in .abs))
       (near-sub (near-sub (near-whole 0 32 elec) (near-whole 0 32 (c .cell .cofs))) o-near)
 
-  pub raw-cell-near : Near 1315 32 (rawCell c elec temp) (rawCellF c elec temp)
+  raw-cell-near : Near 1315 32 (rawCell c elec temp) (rawCellF c elec temp)
   unfolding rawCellAt rawCellF scaled
   raw-cell-near = near-adjust one one-above (omega (arith, cell-magnitudes-of c elec temp ok held .y-within .abs)) (omega (arith, g-small .small)) y-near g-near
 
@@ -62,7 +62,7 @@ module _ (c : Calibration) (elec temp : ℤ) (ok : Acceptable c) (held : elec wi
   unfolding cellAt cellF
   cell-near = near-correct 1 (linearities (c .linearity)) (ok .linearity-ok .rising) (ok .linearity-ok .gentle) craw-near
 
-  pub raw-system-near : Near 13296 32 (rawSystem c elec temp) (rawSystemF c elec temp)
+  raw-system-near : Near 13296 32 (rawSystem c elec temp) (rawSystemF c elec temp)
   unfolding rawSystemAt rawSystemF scaled
   raw-system-near = near-gain 8 (c .system .sgai) one one-above (omega (arith, ok .system-ok .sgai-in .abs)) (near-sub cell-near (near-whole 0 32 (c .system .sofs)))
 
@@ -92,6 +92,8 @@ faithful c elec temp integrity ok held =
       cell-near = in-steps 1660 (cell-near c elec temp ok held) (omega arith);
       sraw-near = in-steps 13296 (sraw-near c elec temp ok held) (omega arith);
       sys-near = in-steps 13296 (sys-near c elec temp ok held) (omega arith);
+      raw-cell-above = raw-cell .above;
+      raw-system-above = raw-system .above;
       crawur-right = λ far. both (raised-lt _ _ _ _ (s .crawur-is)) (same-side (c .cell .cmin) raw-cell far .0);
       crawor-right = λ far. both (raised-lt _ _ _ _ (s .crawor-is)) (same-side (c .cell .cmax) raw-cell far .1);
       sysur-right = λ far. both (raised-lt _ _ _ _ (s .sysur-is)) (same-side (c .system .smin) raw-system far .0);
