@@ -3,6 +3,7 @@ pub mod Spell
 pub mod Distance
 pub mod Held
 pub mod Magnitudes
+pub mod Joined
 pub mod FilterHull
 pub mod FilterCases
 pub mod Filtered

@@ -7,3 +7,4 @@ pub mod Stat
 pub mod Values
 pub mod Faithful
 pub mod Distances
+pub mod ForCode
