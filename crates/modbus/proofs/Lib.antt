@@ -10,3 +10,6 @@ pub mod Ends
 pub mod Replies
 pub mod Judged
 pub mod Checked
+pub mod ForUs
+pub mod Asked
+pub mod Order
