@@ -4,3 +4,4 @@ pub mod Stored
 pub mod Within
 pub mod Trimmed
 pub mod Waiting
+pub mod BadReading

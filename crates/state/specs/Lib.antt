@@ -5,3 +5,4 @@ pub mod Request
 pub mod Register
 pub mod Parts
 pub mod Report
+pub mod BadReading
