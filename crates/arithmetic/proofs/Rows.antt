@@ -14,8 +14,8 @@ use mir.Syntax.{w64}
 use mir.Val.{toZ, ofZ}
 use Rattle.integers.proofs.Machine.{stored-is}
 use Rattle.integers.proofs.Order.{le-yes, le-no}
-use Rattle.arithmetic.specs.Table.{Point, column, place, line, between, interpolated, Computable}
-use Rattle.arithmetic.specs.Segment.{Segment}
+use Rattle.arithmetic.specs.Table.{Point, column, place, line, between, interpolated}
+use Rattle.arithmetic.specs.ForCode.{Computable, Segment}
 use Rattle.arithmetic.proofs.Segment.{each-at, at-first, at-last, at-between}
 
 -- ---- one row

@@ -1,5 +1,5 @@
 pub mod Round
 pub mod Fraction
 pub mod Table
-pub mod Segment
 pub mod Two
+pub mod ForCode

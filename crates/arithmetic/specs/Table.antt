@@ -2,7 +2,7 @@
 -- points: v1 + round((v2 − v1) × (t − t1) ÷ (t2 − t1)). Outside the points the end value is kept."
 use mathlib.Core.Bool.{cond}
 use mathlib.Core.List.{List, [], _∷_}
-use Prim.Native.Nat.{ℕ, _*_, _≤_, _^_}
+use Prim.Native.Nat.{ℕ, _*_, _≤_}
 use lib.IntN.{ℤ, pos, natAbs, _+ℤ_, _-ℤ_, _*ℤ_}
 use lib.ListN.{getD}
 use lib.Signed.{leZ, _<ℤ_}
@@ -76,8 +76,3 @@ Gentle j = Neighbours (λ p q. 4 * natAbs (column j q -ℤ column j p) ≤ natAb
 -- column j is within ±n
 abbrev pub ColumnWithin : ℕ → ℕ → List Point → Type 0
 ColumnWithin j n = Each (λ p. column j p within n)
-
--- What the code asks of column j, so that no product leaves an i64. The figures of every sheet keep it.
-pub record Computable (j : ℕ) (table : List Point) : Type 0 where
-  pub places : ColumnWithin 0 (2 ^ 31) table
-  pub values : ColumnWithin j (2 ^ 27) table

@@ -1,9 +1,9 @@
 ghost use mathlib.Core.Path.{_≡_};
 ghost use Prim.Native.Nat.{_≤_};
 ghost use lib.ListN.{take};
-ghost use Rattle.arithmetic.specs.Table.{line, interpolated, Computable};
-ghost use Rattle.arithmetic.specs.Segment.{Segment};
+ghost use Rattle.arithmetic.specs.Table.{line, interpolated};
 ghost use Rattle.arithmetic.specs.Two.{interpolatedTwo};
+ghost use Rattle.arithmetic.specs.ForCode.{Computable, Segment};
 use crate::rounding::round_div;
 
 // The two values of a table's points, interpolated.

@@ -1,7 +1,7 @@
 -- The figures of an acceptable table are within what the code of interpolation asks. Assumes nothing.
 use Prim.Native.Nat.{_^_}
 use native.Mathlib.Omega.{arith}
-use Rattle.arithmetic.specs.Table.{Computable}
+use Rattle.arithmetic.specs.ForCode.{Computable}
 use Rattle.arithmetic.proofs.Table.{column-within-more}
 use Rattle.figures.specs.Limits.{ctMost, ctoMost, ctgMost, clxMost, clkMost}
 use Rattle.figures.specs.Acceptable.{temperatures, linearities, TemperatureAcceptable, LinearityAcceptable}

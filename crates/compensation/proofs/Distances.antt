@@ -11,7 +11,7 @@ use Rattle.arithmetic.specs.Fraction.{Fraction, _over_}
 use Rattle.compensation.specs.Faithful.{Within, Farther, Above, Below}
 use Rattle.compensation.specs.Stat.{Raised}
 use Rattle.compensation.specs.Distances.{Between, FarBelow, FarAbove, Judges, AlwaysBetween}
-use Rattle.compensation.proofs.Faithful.{faithful, raw-cell-near, raw-system-near}
+use Rattle.compensation.proofs.Faithful.{faithful}
 
 between : {k : ℕ} {x t l : ℤ} → Within k x (t over l) → Between k x (t over l)
 between {l = negsuc n} w = absurd (w .above .lt)
@@ -52,15 +52,13 @@ module _ (k bit stat : ℕ) (limit : ℤ) (q : Fraction) (above : pos 0 <ℤ q .
 pub distances : AlwaysBetween
 distances c elec temp integrity ok held =
     let f = faithful c elec temp integrity ok held in
-    let cell-above = raw-cell-near c elec temp ok held .above in
-    let system-above = raw-system-near c elec temp ok held .above in
     record {
       craw-between = between (f .craw-near);
       cell-between = between (f .cell-near);
       sraw-between = between (f .sraw-near);
       sys-between = between (f .sys-near);
-      crawur-judges = under-judges 42 _ _ (c .cell .cmin) _ cell-above (f .crawur-right);
-      crawor-judges = over-judges 42 _ _ (c .cell .cmax) _ cell-above (f .crawor-right);
-      sysur-judges = under-judges 416 _ _ (c .system .smin) _ system-above (f .sysur-right);
-      sysor-judges = over-judges 416 _ _ (c .system .smax) _ system-above (f .sysor-right);
+      crawur-judges = under-judges 42 _ _ (c .cell .cmin) _ (f .raw-cell-above) (f .crawur-right);
+      crawor-judges = over-judges 42 _ _ (c .cell .cmax) _ (f .raw-cell-above) (f .crawor-right);
+      sysur-judges = under-judges 416 _ _ (c .system .smin) _ (f .raw-system-above) (f .sysur-right);
+      sysor-judges = over-judges 416 _ _ (c .system .smax) _ (f .raw-system-above) (f .sysor-right);
     }

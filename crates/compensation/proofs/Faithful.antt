@@ -18,13 +18,13 @@ use Rattle.arithmetic.proofs.Exact.{Small, exact-small, interpolated-near}
 use Rattle.figures.specs.Acceptable.{Acceptable, temperatures, linearities}
 use Rattle.figures.specs.declared.Calibration.{Calibration}
 use Rattle.compensation.specs.Filter.{elecMost}
-use Rattle.compensation.specs.Reading.{one, scaled, yAt, rawCellAt, crawAt, cellAt, rawSystemAt, srawAt, sysAt, o, g, y, rawCell, craw, cell, rawSystem, sraw, sys}
-use Rattle.compensation.specs.Values.{cellValuesAt, valuesFrom, valuesAt}
+use Rattle.compensation.specs.Reading.{one, scaled, o, g, y, rawCell, craw, cell, rawSystem, sraw, sys}
+use Rattle.compensation.specs.Values.{valuesOf}
 use Rattle.compensation.specs.Exact.{oF, gF, yF, rawCellF, crawF, cellF, rawSystemF, srawF, sysF}
 use Rattle.compensation.specs.Faithful.{Within, AlwaysFaithful}
 use Rattle.compensation.proofs.Distance.{near-gain, near-adjust, near-correct}
 use Rattle.compensation.proofs.Held.{near-hold, same-side}
-use Rattle.compensation.proofs.Magnitudes.{one-above, cell-magnitudes-of}
+use Rattle.compensation.proofs.Magnitudes.{one-above, magnitudes}
 use Rattle.compensation.proofs.Flags.{raised-lt, raised-eq, stat-bits}
 
 -- at a whole number
@@ -45,33 +45,33 @@ module _ (c : Calibration) (elec temp : ℤ) (ok : Acceptable c) (held : elec wi
   g-small = exact-small 2 (temperatures (c .temperature)) (whole temp) (ok .temperature-ok .ctg-in)
 
   y-near : Near 1040 32 (y c elec temp) (yF c elec temp)
-  unfolding yAt yF scaled
+  unfolding y yF scaled
   y-near =
       near-gain 64 (c .cell .cgai) one one-above (omega (arith, ok .cell-ok .cgai-in .abs))
       (near-sub (near-sub (near-whole 0 32 elec) (near-whole 0 32 (c .cell .cofs))) o-near)
 
-  pub raw-cell-near : Near 1315 32 (rawCell c elec temp) (rawCellF c elec temp)
-  unfolding rawCellAt rawCellF scaled
-  raw-cell-near = near-adjust one one-above (omega (arith, cell-magnitudes-of c elec temp ok held .y-within .abs)) (omega (arith, g-small .small)) y-near g-near
+  raw-cell-near : Near 1315 32 (rawCell c elec temp) (rawCellF c elec temp)
+  unfolding rawCell rawCellF scaled
+  raw-cell-near = near-adjust one one-above (omega (arith, magnitudes c elec temp ok held .y-within .abs)) (omega (arith, g-small .small)) y-near g-near
 
   craw-near : Near 1315 32 (craw c elec temp) (crawF c elec temp)
-  unfolding crawAt crawF
+  unfolding craw crawF
   craw-near = near-hold (c .cell .cmin) (c .cell .cmax) (<-≤ (ok .cell-ok .ordered)) raw-cell-near
 
   cell-near : Near 1660 32 (cell c elec temp) (cellF c elec temp)
-  unfolding cellAt cellF
+  unfolding cell cellF
   cell-near = near-correct 1 (linearities (c .linearity)) (ok .linearity-ok .rising) (ok .linearity-ok .gentle) craw-near
 
-  pub raw-system-near : Near 13296 32 (rawSystem c elec temp) (rawSystemF c elec temp)
-  unfolding rawSystemAt rawSystemF scaled
+  raw-system-near : Near 13296 32 (rawSystem c elec temp) (rawSystemF c elec temp)
+  unfolding rawSystem rawSystemF scaled
   raw-system-near = near-gain 8 (c .system .sgai) one one-above (omega (arith, ok .system-ok .sgai-in .abs)) (near-sub cell-near (near-whole 0 32 (c .system .sofs)))
 
   sraw-near : Near 13296 32 (sraw c elec temp) (srawF c elec temp)
-  unfolding rawSystemAt srawAt srawF
+  unfolding sraw srawF
   sraw-near = near-hold (c .system .smin) (c .system .smax) (<-≤ (ok .system-ok .ordered)) raw-system-near
 
   sys-near : Near 13296 32 (sys c elec temp) (sysF c elec temp)
-  unfolding srawAt sysAt sysF
+  unfolding sys sysF
   sys-near = near-sub sraw-near (near-whole 0 32 (c .system .sz))
 
 -- j/32 steps, in whole steps
@@ -82,7 +82,7 @@ both : {A B C : Type 0} → A ↔ B → B ↔ C → A ↔ C
 both f g = ((λ a. g .0 (f .0 a)), (λ c. f .1 (g .1 c)))
 
 pub faithful : AlwaysFaithful
-unfolding valuesAt valuesFrom cellValuesAt rawSystemAt srawAt sysAt
+unfolding valuesOf
 faithful c elec temp integrity ok held =
     let s = stat-bits c elec temp integrity in
     let raw-cell = in-steps {k = 42} 1315 (raw-cell-near c elec temp ok held) (omega arith) in
@@ -92,6 +92,8 @@ faithful c elec temp integrity ok held =
       cell-near = in-steps 1660 (cell-near c elec temp ok held) (omega arith);
       sraw-near = in-steps 13296 (sraw-near c elec temp ok held) (omega arith);
       sys-near = in-steps 13296 (sys-near c elec temp ok held) (omega arith);
+      raw-cell-above = raw-cell .above;
+      raw-system-above = raw-system .above;
       crawur-right = λ far. both (raised-lt _ _ _ _ (s .crawur-is)) (same-side (c .cell .cmin) raw-cell far .0);
       crawor-right = λ far. both (raised-lt _ _ _ _ (s .crawor-is)) (same-side (c .cell .cmax) raw-cell far .1);
       sysur-right = λ far. both (raised-lt _ _ _ _ (s .sysur-is)) (same-side (c .system .smin) raw-system far .0);

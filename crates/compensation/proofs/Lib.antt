@@ -3,8 +3,10 @@ pub mod Spell
 pub mod Distance
 pub mod Held
 pub mod Magnitudes
+pub mod Joined
 pub mod FilterHull
 pub mod FilterCases
+pub mod Filtered
 pub mod StatBits
 pub mod Flags
 pub mod Faithful

@@ -18,8 +18,8 @@ use Rattle.figures.specs.declared.Cell.{Cell}
 use Rattle.figures.specs.declared.Linearity.{Linearity}
 use Rattle.figures.specs.declared.System.{System}
 use Rattle.compensation.specs.Filter.{elecMost}
-use Rattle.compensation.specs.Reading.{one, scaled, inputAt, yAt, rawCellAt, crawAt, cellAt, rawSystemFrom, srawFrom, sysFrom, cell}
-use Rattle.compensation.specs.Values.{cellValuesAt, CellInput, SystemInput, ValuesInput}
+use Rattle.compensation.specs.Reading.{one, scaled, y, rawCell, craw, cell, rawSystem, sraw, sys}
+use Rattle.compensation.specs.ForCode.{inputAt, yAt, rawCellAt, crawAt, cellAt, rawSystemFrom, srawFrom, sysFrom, cellValuesAt, CellInput, SystemInput, ValuesInput}
 use Rattle.compensation.specs.declared.steps.Input.{Input}
 use Rattle.compensation.proofs.Held.{hold-within}
 
@@ -103,6 +103,16 @@ pub record SystemMagnitudes (s : System) (cell : ℤ) : Type 0 where
 pub system-magnitudes : (s : System) (cell : ℤ) → SystemInput s cell → SystemMagnitudes s cell
 system-magnitudes s cell ok = record { raw-system-within = raw-system-in s cell ok; sraw-within = sraw-in s cell ok; sys-within = sys-in s cell ok }
 
+-- of a reading
+pub record Magnitudes (c : Calibration) (elec temp : ℤ) : Type 0 where
+  pub y-within : (y c elec temp) within 2600468480
+  pub raw-cell-within : (rawCell c elec temp) within 2860515323
+  pub craw-within : (craw c elec temp) within 2097152000
+  pub cell-within : (cell c elec temp) within 2162688000
+  pub raw-system-within : (rawSystem c elec temp) within 34078720000
+  pub sraw-within : (sraw c elec temp) within 2097152000
+  pub sys-within : (sys c elec temp) within 4194304000
+
 -- ---- what each step gives by acceptable figures is what the next may be handed
 
 module _ (c : Calibration) (elec temp : ℤ) (ok : Acceptable c) (held : elec within elecMost) where
@@ -115,13 +125,25 @@ module _ (c : Calibration) (elec temp : ℤ) (ok : Acceptable c) (held : elec wi
     g-in = interpolated-within 2 (temperatures (c .temperature)) temp (ok .temperature-ok .ctg-in);
   }
 
-  pub cell-magnitudes-of : CellMagnitudes (c .cell) (c .linearity) (inputAt (c .temperature) elec temp)
-  cell-magnitudes-of = cell-magnitudes (c .cell) (c .linearity) (inputAt (c .temperature) elec temp) cell-input
+  cell-kept : CellMagnitudes (c .cell) (c .linearity) (inputAt (c .temperature) elec temp)
+  cell-kept = cell-magnitudes (c .cell) (c .linearity) (inputAt (c .temperature) elec temp) cell-input
 
   pub values-input : ValuesInput (c .cell) (c .system) (cellValuesAt (c .cell) (c .linearity) (inputAt (c .temperature) elec temp))
   unfolding cellValuesAt crawAt
-  values-input = record { cell-ok = ok .cell-ok; system-in = record { acceptable = ok .system-ok; cell-in = cell-magnitudes-of .cell-within }; craw-held = refl }
+  values-input = record { cell-ok = ok .cell-ok; system-in = record { acceptable = ok .system-ok; cell-in = cell-kept .cell-within }; craw-held = refl }
 
-  pub system-magnitudes-of : SystemMagnitudes (c .system) (cell c elec temp)
+  system-kept : SystemMagnitudes (c .system) (cellAt (c .cell) (c .linearity) (inputAt (c .temperature) elec temp))
   unfolding cellValuesAt
-  system-magnitudes-of = system-magnitudes (c .system) (cell c elec temp) (values-input .system-in)
+  system-kept = system-magnitudes (c .system) _ (values-input .system-in)
+
+  pub magnitudes : Magnitudes c elec temp
+  unfolding y yAt rawCell rawCellAt craw crawAt cell cellAt rawSystem sraw sys
+  magnitudes = record {
+    y-within = cell-kept .y-within;
+    raw-cell-within = cell-kept .raw-cell-within;
+    craw-within = cell-kept .craw-within;
+    cell-within = cell-kept .cell-within;
+    raw-system-within = system-kept .raw-system-within;
+    sraw-within = system-kept .sraw-within;
+    sys-within = system-kept .sys-within;
+  }

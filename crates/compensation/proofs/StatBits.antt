@@ -14,7 +14,8 @@ use Rattle.integers.proofs.Machine.{and-left, and-right}
 use Rattle.figures.specs.declared.Cell.{Cell}
 use Rattle.figures.specs.declared.System.{System}
 use Rattle.compensation.specs.Hold.{hold}
-use Rattle.compensation.specs.Stat.{weigh, range, tempUnder, tempOver, elecUnder, elecOver, statOf, inputBits, HeldBits, HeldStat}
+use Rattle.compensation.specs.Stat.{weigh, range, tempUnder, tempOver, elecUnder, elecOver, statOf}
+use Rattle.compensation.specs.ForCode.{inputBits, HeldBits, HeldStat}
 
 -- ---- the inputs
 

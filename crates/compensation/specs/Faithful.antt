@@ -2,7 +2,7 @@
 -- the theorem `faithful` (proofs/Faithful.antt).
 use mathlib.Core.Logic.{_↔_}
 use Prim.Native.Nat.{ℕ, _*_, _<_}
-use lib.IntN.{ℤ, natAbs, _-ℤ_, _*ℤ_}
+use lib.IntN.{ℤ, pos, natAbs, _-ℤ_, _*ℤ_}
 use lib.Signed.{_<ℤ_}
 use mathlib.Core.Path.{_≡_}
 use Rattle.integers.specs.Within.{_within_}
@@ -36,6 +36,9 @@ pub record Faithful (c : Calibration) (elec temp : ℤ) (integrity : ℕ) (v : V
   pub cell-near : Within 52 (v .cell) (cellF c elec temp)
   pub sraw-near : Within 416 (v .sraw) (srawF c elec temp)
   pub sys-near : Within 416 (v .sys) (sysF c elec temp)
+  -- the exact raw values too are fractions: "the lower one above 0", so that multiplying out keeps every order below
+  pub raw-cell-above : pos 0 <ℤ rawCellF c elec temp .low
+  pub raw-system-above : pos 0 <ℤ rawSystemF c elec temp .low
   -- the range flags, wherever the exact raw value is farther than that from the limit
   pub crawur-right : Farther 42 (c .cell .cmin) (rawCellF c elec temp) → Raised crawur (v .stat) ↔ Below (rawCellF c elec temp) (c .cell .cmin)
   pub crawor-right : Farther 42 (c .cell .cmax) (rawCellF c elec temp) → Raised crawor (v .stat) ↔ Above (rawCellF c elec temp) (c .cell .cmax)

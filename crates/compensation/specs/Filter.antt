@@ -6,8 +6,6 @@ use lib.Dec.{eqb}
 use lib.IntN.{ℤ, pos, negsuc, natAbs, _+ℤ_, _-ℤ_}
 use lib.Signed.{ltZ}
 use Rattle.arithmetic.specs.Round.{roundDiv}
-use Rattle.integers.specs.Within.{_within_}
-use Rattle.figures.specs.Acceptable.{FilterAcceptable}
 use Rattle.figures.specs.declared.Filter.{Filter}
 
 -- the largest magnitude of ELEC that a reading may have (number 9), and so of the held value
@@ -23,9 +21,3 @@ filtered f first held input =
     cond (first || (isZero (f .fflv) || isZero (f .ffst))) input
     (cond (ltZ (f .fflv) (pos (natAbs (input -ℤ held)))) input
     (held +ℤ roundDiv (input -ℤ held) (f .ffst)))
-
--- what the filter may be handed: an accepted input, and the held value of accepted ones
-pub record FilterInput (f : Filter) (held input : ℤ) : Type 0 where
-  pub acceptable : FilterAcceptable f
-  pub held-in : held within elecMost
-  pub input-in : input within elecMost

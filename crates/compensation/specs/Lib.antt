@@ -1,8 +1,10 @@
 pub mod Hold
 pub mod Filter
+pub mod Filtered
 pub mod Reading
 pub mod Exact
 pub mod Stat
 pub mod Values
 pub mod Faithful
 pub mod Distances
+pub mod ForCode

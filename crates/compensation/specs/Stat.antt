@@ -6,11 +6,10 @@ use Prim.Native.Nat.{ℕ, _/_, _%_, _^_}
 use lib.Bits.{bitOr}
 use lib.Dec.{eqb}
 use lib.IntN.{ℤ, pos, negℤ}
-use lib.Signed.{ltZ, _≤ℤ_}
+use lib.Signed.{ltZ}
 use Rattle.figures.specs.declared.Calibration.{Calibration}
 use Rattle.figures.specs.declared.Cell.{Cell}
 use Rattle.figures.specs.declared.System.{System}
-use Rattle.compensation.specs.Hold.{hold}
 use Rattle.compensation.specs.Reading.{rawCell, rawSystem}
 
 -- ---- flags are bits of a number
@@ -87,18 +86,3 @@ statOf c s elec temp cell system integrity =
 -- of a reading: ELEC as the filter holds it, TEMP, the raw cell and raw system values, and the integrity byte
 abbrev pub stat : Calibration → ℤ → ℤ → ℕ → ℕ
 stat c elec temp integrity = statOf (c .cell) (c .system) elec temp (rawCell c elec temp) (rawSystem c elec temp) integrity
-
--- ---- as the code finds them
-
--- the bits of ELEC, TEMP and the integrity byte
-unfoldable pub inputBits : ℤ → ℤ → ℕ → ℕ
-inputBits elec temp integrity = bitOr (range tempUnder tempOver temp 4 8) (bitOr (range elecUnder elecOver elec 16 32) (weigh (eqb integrity 1) 2048))
-
--- n are the bits of a raw value x that was held at h, by whichever limits
-abbrev pub HeldBits : ℤ → ℤ → ℕ → ℕ → ℕ → Type 0
-HeldBits x h under over n = (lo hi : ℤ) → lo ≤ℤ hi → h ≡ hold lo hi x → n ≡ range lo hi x under over
-
--- n is STAT, of a raw cell x that was held at h and a raw system y at k, by whichever figures
-abbrev pub HeldStat : ℤ → ℤ → ℕ → ℤ → ℤ → ℤ → ℤ → ℕ → Type 0
-HeldStat elec temp integrity x h y k n =
-    (c : Cell) (s : System) → c .cmin ≤ℤ c .cmax → s .smin ≤ℤ s .smax → h ≡ hold (c .cmin) (c .cmax) x → k ≡ hold (s .smin) (s .smax) y → n ≡ statOf c s elec temp x y integrity

@@ -1,6 +1,7 @@
 // Step 1, the filter (01, "The reading").
 ghost use mathlib.Core.Path.{_≡_};
-ghost use Rattle.compensation.specs.Filter.{filtered, FilterInput};
+ghost use Rattle.compensation.specs.Filter.{filtered};
+ghost use Rattle.compensation.specs.ForCode.{FilterInput};
 use arithmetic::magnitude;
 use arithmetic::round_div;
 use figures::Filter;

@@ -2,7 +2,8 @@
 ghost use mathlib.Core.Path.{_≡_};
 ghost use mathlib.Core.Bool.{_&&_};
 ghost use lib.Signed.{leZ};
-ghost use Rattle.compensation.specs.Stat.{weigh, range, inputBits, HeldBits, HeldStat};
+ghost use Rattle.compensation.specs.Stat.{weigh, range};
+ghost use Rattle.compensation.specs.ForCode.{inputBits, HeldBits, HeldStat};
 
 pub const TEMPUR: u16 = 4;
 

@@ -8,14 +8,14 @@ use lib.IntN.{ℤ}
 use lib.ListN.{length}
 use Rattle.integers.specs.Within.{_within_}
 use Rattle.figures.specs.Acceptable.{TemperatureAcceptable}
-use Rattle.compensation.specs.Filter.{FilterInput, elecMost}
-use Rattle.compensation.specs.Reading.{inputAt}
-use Rattle.compensation.specs.Values.{cellValuesAt, valuesFrom, valuesAt, CellInput, ValuesInput}
+use Rattle.compensation.specs.Filter.{elecMost}
+use Rattle.compensation.specs.ForCode.{inputAt, cellValuesAt, valuesFrom, FilterInput, CellInput, ValuesInput}
 use Rattle.compensation.specs.declared.steps.CellValues.{CellValues}
 use Rattle.compensation.specs.declared.steps.Input.{Input}
 use Rattle.compensation.specs.declared.steps.Values.{Values}
 use Rattle.compensation.proofs.Magnitudes.{cell-input, values-input}
 use Rattle.register.specs.Number.{APPLY, RST, SNAP, PEAKRESET}
+use Rattle.compensation.proofs.Joined.{values-joined}
 use Rattle.modbus.specs.Frame.{judged}
 use Rattle.modbus.specs.declared.frame.Frame.{Frame}
 use Rattle.modbus.specs.declared.frame.Frame.the-variants as asks
@@ -70,8 +70,8 @@ module _ {d : Device} (h : Reached d) (elec temp : ℤ) (integrity : ℕ) where
         -- and what the state that is given last makes of the device
         pub joins : {v : Values} {s : State} → v ≡ valuesFrom (d .setup .figures .cell) (d .setup .figures .system) k held temp integrity → s ≡ takenWith (d .state) held temp v
             → Reading d elec temp integrity (record { number = 0; device = record { setup = d .setup; state = s } })
-        unfolding taken valuesAt
-        joins v-is s-is = gives (rw (good, s-is, v-is, k-is, i-is, held-is) refl)
+        unfolding taken
+        joins v-is s-is = gives (rw (good, s-is, v-is, k-is, i-is, held-is, values-joined) refl)
 
 -- ---- a frame
 

@@ -13,9 +13,9 @@ use Rattle.sheet.specs.Write.{sheetBytes}
 use Rattle.sheet.proofs.Edges.{default-read}
 use Rattle.compensation.specs.Hold.{hold}
 use Rattle.compensation.specs.Filter.{filtered}
-use Rattle.compensation.specs.Reading.{scaled, yAt, rawCellAt, crawAt, cellAt, rawSystemAt, srawAt, sysAt}
+use Rattle.compensation.specs.Reading.{scaled, y, rawCell, craw, cell, rawSystem, sraw, sys}
 use Rattle.compensation.specs.Stat.{bitAt, Raised, crawor, statOf}
-use Rattle.compensation.specs.Values.{cellValuesAt, valuesFrom, valuesAt}
+use Rattle.compensation.specs.Values.{valuesOf}
 use Rattle.binary32.specs.Received.{takes, nearest, counted}
 use Rattle.figures.specs.Unused.{unusedZero}
 use Rattle.checksum.specs.Checksum.{shifted, shifts, taken}
@@ -63,7 +63,7 @@ pub record Example (d : Device) : Type 0 where
   pub cgai : d .setup .figures .cell .cgai ≡ pos 536870912
 
 pub example : Example (run start calls)
-unfolding roundDiv floorDiv between interpolated defaultSheet temperatures linearities hold filtered scaled yAt rawCellAt crawAt cellAt rawSystemAt srawAt sysAt bitAt statOf cellValuesAt valuesFrom valuesAt takes nearest counted
+unfolding roundDiv floorDiv between interpolated defaultSheet temperatures linearities hold filtered scaled y rawCell craw cell rawSystem sraw sys bitAt statOf valuesOf takes nearest counted
     rangeOf ofBits shifted shifts taken accessOf checked toUs forUs accessAsked writeOf writeAsked judged outside badReading larger smaller peakAfter trofAfter joined reading.takenWith reading.taken unusedZero isFigure written cellWith
     temperaturePointWith temperatureWith linearityPointWith linearityWith systemWith filterWith withFigure shortOf wrongCount beyond notBelow tooSteep cellNumber temperatureNumber temperaturePointNumber linearityNumber
     linearityPointNumber systemNumber filterNumber sectionsNumber figuresNumber copyFits applied setupWritten setupActed setupBy fresh snapped acted flagged stateBy

@@ -11,3 +11,4 @@ pub mod Corollaries
 pub mod Panel
 pub mod Example
 pub mod Starred
+pub mod Station

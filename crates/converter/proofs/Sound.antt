@@ -18,10 +18,10 @@ use Rattle.figures.specs.Unused.{unusedZero}
 use Rattle.figures.specs.Limits.{szMost}
 use Rattle.figures.specs.declared.Calibration.{Calibration}
 use Rattle.compensation.specs.Filter.{elecMost}
-use Rattle.compensation.specs.Reading.{rawSystemAt, srawAt, sysAt, sys}
-use Rattle.compensation.specs.Values.{cellValuesAt, valuesFrom, valuesAt, valuesOf}
+use Rattle.compensation.specs.Reading.{sys}
+use Rattle.compensation.specs.Values.{valuesOf}
 use Rattle.compensation.proofs.FilterHull.{filtered-within}
-use Rattle.compensation.proofs.Magnitudes.{cell-magnitudes-of, system-magnitudes-of}
+use Rattle.compensation.proofs.Magnitudes.{magnitudes}
 use Rattle.binary32.proofs.Counted.{counted-within}
 use Rattle.register.specs.Number.{FLAG, SZ, APPLY, RST, SNAP, PEAKRESET}
 use Rattle.register.specs.Register.{accessOf, rangeOf}
@@ -109,18 +109,17 @@ smaller-within {n} a b h k = pick (ltZ b a) b a (λ z. z within n) (λ e. k) (λ
 
 join-sound : (c : Calibration) (r : Readings) (elec temp : ℤ) (integrity : ℕ) → Acceptable c → ReadingsSound r → elec within elecMost → temp within tempMost
     → ReadingsSound (joined r elec temp (valuesOf c elec temp integrity))
-unfolding joined peakAfter trofAfter valuesAt valuesFrom cellValuesAt rawSystemAt srawAt sysAt
+unfolding joined peakAfter trofAfter valuesOf
 join-sound c r elec temp integrity ok h e t =
-    let k = cell-magnitudes-of c elec temp ok e in
-    let m = system-magnitudes-of c elec temp ok e in
+    let m = magnitudes c elec temp ok e in
     let w = h .values-in in
     record {
       held-in = e;
       values-in = record {
         elec-in = within-more e (lit≤ tt);
         temp-in = within-more t (lit≤ tt);
-        craw-in = within-more (k .craw-within) (lit≤ tt);
-        cell-in = within-more (k .cell-within) (lit≤ tt);
+        craw-in = within-more (m .craw-within) (lit≤ tt);
+        cell-in = within-more (m .cell-within) (lit≤ tt);
         sraw-in = within-more (m .sraw-within) (lit≤ tt);
         sys-in = m .sys-within;
         peak-in = pick (r .any) (larger (r .peak) (sys c elec temp)) (sys c elec temp) (λ z. z within valueMost) (λ b. larger-within _ _ (w .peak-in) (m .sys-within)) (λ b. m .sys-within);

@@ -12,8 +12,7 @@ use Rattle.sheet.specs.Read.{cellAt, temperaturePointAt, linearityPointAt, temp
 use Rattle.sheet.specs.Write.{cellBytes, temperaturePointBytes, linearityPointBytes, temperatureBytes, linearityBytes, systemBytes, filterBytes, sheetBytes}
 use Rattle.compensation.specs.Hold.{hold}
 use Rattle.compensation.specs.Filter.{filtered}
-use Rattle.compensation.specs.Reading as steps
-use Rattle.compensation.specs.Reading.{scaled, yAt, rawCellAt, crawAt, rawSystemAt}
+use Rattle.compensation.specs.Reading.{scaled, y, rawCell, craw, cell, rawSystem}
 use Rattle.compensation.specs.Stat.{bitAt, statOf}
 use Rattle.binary32.specs.Sent.{countFloat}
 use Rattle.binary32.specs.Received.{takes, nearest, counted}
@@ -21,7 +20,7 @@ use Rattle.register.specs.Register.{accessOf, rangeOf}
 use Rattle.converter.specs.Starred.{Starred}
 
 pub starred-hold : Starred
-unfolding roundDiv floorDiv between interpolated defaultSheet temperatures linearities hold filtered scaled yAt rawCellAt crawAt steps.cellAt rawSystemAt bitAt statOf toBits ofBits countFloat takes nearest counted accessOf rangeOf
+unfolding roundDiv floorDiv between interpolated defaultSheet temperatures linearities hold filtered scaled y rawCell craw cell rawSystem bitAt statOf toBits ofBits countFloat takes nearest counted accessOf rangeOf
     sheetNumber sectionsNumber cellNumber temperatureNumber temperaturePointNumber linearityNumber linearityPointNumber systemNumber filterNumber shortOf wrongCount beyond notBelow tooSteep trailing figuresOf cellAt temperatureAt
     temperaturePointAt linearityAt linearityPointAt systemAt filterAt figureAt signedOf sheetBytes cellBytes temperatureBytes linearityBytes systemBytes filterBytes temperaturePointBytes linearityPointBytes figureBytes
 starred-hold = record { hold = refl; all = refl }

@@ -4,3 +4,4 @@ pub mod Reached
 pub mod Log
 pub mod History
 pub mod Starred
+pub mod Station

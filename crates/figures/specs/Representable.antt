@@ -1,5 +1,5 @@
--- What every calibration record has by its type, and lists and whole numbers need not have: arrays of five and seven points,
--- and figures of 64 bits.
+-- Nothing to be believed: what every calibration record of the code has by its type, and lists and whole numbers need not have, which
+-- is arrays of five and seven points, and figures of 64 bits. Statements about every record take it as given.
 use mathlib.Core.Path.{_≡_}
 use Prim.Native.Nat.{ℕ, _<_}
 use lib.ListN.{length, getD}

@@ -18,6 +18,7 @@ pub mod Range
 pub mod Edges
 mod DefaultBytes
 pub mod Steps
+pub mod CursorGoes
 pub mod Locals
 pub mod Gives
 pub mod Apart

@@ -4,3 +4,4 @@ pub mod Read
 pub mod Write
 pub mod DefaultBytes
 pub mod Step
+pub mod CursorGoes

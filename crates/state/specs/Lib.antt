@@ -1,4 +1,5 @@
 pub mod Reading
+pub mod BadReading
 pub mod Request
 pub mod Report
 pub mod Within

@@ -1,7 +1,8 @@
 // A reading joins (01, "The reading"): its filtered input and values, PEAK and TROF, and its STAT bits in FLAG.
 ghost use mathlib.Core.Path.{_≡_};
 ghost use mathlib.Core.Bool.{not};
-ghost use Rattle.compensation.specs.Filter.{filtered, FilterInput};
+ghost use Rattle.compensation.specs.Filter.{filtered};
+ghost use Rattle.compensation.specs.ForCode.{FilterInput};
 ghost use Rattle.state.specs.Reading.{outside, badReading, larger, smaller, peakAfter, trofAfter, joined, takenWith};
 use crate::Readings;
 use crate::State;

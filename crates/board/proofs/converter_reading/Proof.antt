@@ -7,8 +7,7 @@ use Rattle.figures.proofs.Temperature.Laws as T′
 use Rattle.figures.proofs.Linearity.Laws as L′
 use Rattle.figures.proofs.System.Laws as Y′
 use Rattle.figures.proofs.Filter.Laws as I′
-use Rattle.compensation.specs.Reading.{inputAt}
-use Rattle.compensation.specs.Values.{cellValuesAt, valuesFrom}
+use Rattle.compensation.specs.ForCode.{inputAt, cellValuesAt, valuesFrom}
 use Rattle.compensation.proofs.steps.Input.Laws as P′
 use Rattle.compensation.proofs.steps.CellValues.Laws as K′
 use Rattle.compensation.proofs.steps.Values.Laws as E′

@@ -3,7 +3,8 @@ use mathlib.Core.Path.{_≡_, sym, _∙_}
 use mir.ValLaws.{toZ-ofZ}
 use borrow.Author.Needs.{needs}
 use borrow.Author.Tests.{eqb-true}
-use Rattle.compensation.specs.Stat.{range, inputBits, tempUnder, tempOver, elecUnder, elecOver}
+use Rattle.compensation.specs.Stat.{range, tempUnder, tempOver, elecUnder, elecOver}
+use Rattle.compensation.specs.ForCode.{inputBits}
 use Rattle.compensation.proofs.StatBits.{inside-none}
 use Rattle.compensation.proofs.stat.input_bits.Statement.{statement}
 use Rattle.compensation.proofs.stat.input_bits.Tie as tie

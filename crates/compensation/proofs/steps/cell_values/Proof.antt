@@ -7,8 +7,7 @@ use Rattle.integers.proofs.Machine.{stored-is}
 use Rattle.figures.specs.declared.Cell.{Cell}
 use Rattle.figures.specs.declared.Linearity.{Linearity}
 use Rattle.compensation.specs.declared.steps.Input.{Input}
-use Rattle.compensation.specs.Reading.{yAt, rawCellAt, crawAt, cellAt}
-use Rattle.compensation.specs.Values.{cellValuesAt}
+use Rattle.compensation.specs.ForCode.{yAt, rawCellAt, crawAt, cellAt, cellValuesAt}
 use Rattle.compensation.proofs.Magnitudes.{Holds, CellMagnitudes, cell-magnitudes}
 use Rattle.compensation.proofs.steps.cell_values.Statement.{statement}
 use Rattle.compensation.proofs.steps.cell_values.Tie as tie

@@ -11,9 +11,8 @@ use Rattle.integers.proofs.Machine.{stored-is}
 use Rattle.figures.specs.declared.Cell.{Cell}
 use Rattle.figures.specs.declared.System.{System}
 use Rattle.compensation.specs.declared.steps.CellValues.{CellValues}
-use Rattle.compensation.specs.Reading.{rawSystemFrom, srawFrom, sysFrom}
+use Rattle.compensation.specs.ForCode.{rawSystemFrom, srawFrom, sysFrom, valuesFrom}
 use Rattle.compensation.specs.Stat.{statOf}
-use Rattle.compensation.specs.Values.{valuesFrom}
 use Rattle.compensation.proofs.Magnitudes.{Holds, SystemMagnitudes, system-magnitudes}
 use Rattle.compensation.proofs.steps.values_from.Statement.{statement}
 use Rattle.compensation.proofs.steps.values_from.Tie as tie

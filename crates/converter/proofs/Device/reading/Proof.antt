@@ -7,7 +7,7 @@ use mir.Syntax.{w64}
 use mir.Val.{toZ, ofZ}
 use mir.ValLaws.{toZ-ofZ}
 use Rattle.integers.proofs.Machine.{held}
-use Rattle.compensation.specs.Reading.{inputAt}
+use Rattle.compensation.specs.ForCode.{inputAt}
 use Rattle.state.specs.Reading.{badReading, heldAfter}
 use Rattle.converter.specs.declared.Device.{Device}
 use Rattle.converter.proofs.Entries.{refuses, filters, adjusts, corrects, scales, joins}
