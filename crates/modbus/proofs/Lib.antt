@@ -10,3 +10,5 @@ pub mod Ends
 pub mod Replies
 pub mod Judged
 pub mod Checked
+pub mod Master
+pub mod Exception
