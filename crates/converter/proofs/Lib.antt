@@ -1,10 +1,15 @@
 mod Bits
 mod Events
 mod Extremes
-mod Shown
 pub mod Made
+pub mod Station
+pub mod Wire
+mod Listed
 pub mod Sound
 pub mod History
+mod Snapshot
+mod Shown
+pub mod Agrees
 pub mod Reached
 pub mod Entries
 pub mod Corollaries

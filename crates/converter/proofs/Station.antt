@@ -1,0 +1,58 @@
+-- A device keeps the station that it was made with, which is never 0; so a record of zeros is no device. Assumes nothing.
+use mathlib.Core.Path.{_≡_, refl, sym, ap, _∙_, subst}
+use mathlib.Core.Bool.{Bool, true, false, cond}
+use mathlib.Core.List.{List, [], _∷_}
+use Prim.Native.Nat.{ℕ}
+use lib.Dec.{eqb}
+use Rattle.integers.proofs.Order.{is-true, pick}
+use Rattle.modbus.specs.Number.{SZ, APPLY, RST}
+use Rattle.modbus.specs.Frame.{judged}
+use Rattle.modbus.specs.declared.frame.Frame.{Frame}
+use Rattle.modbus.specs.declared.frame.Frame.the-variants.{Refused, Read, Write, Act}
+use Rattle.panel.specs.Figure.{isFigure}
+use Rattle.state.specs.InForce.{copyFits, applied, setupWritten, setupActed, setupBy}
+use Rattle.state.specs.Reading.{badReading}
+use Rattle.state.specs.declared.Setup.{Setup}
+use Rattle.converter.specs.Making.{stationFits, noDevice, made}
+use Rattle.converter.specs.Call.{Call, reading, frame, report, read, step, run}
+use Rattle.converter.specs.Reached.{Reached}
+use Rattle.converter.specs.declared.Device.{Device}
+use Rattle.converter.proofs.Made.{making-accepted}
+
+by-station : (s : Setup) (f : Frame) → setupBy s f .station ≡ s .station
+unfolding setupBy setupWritten setupActed applied
+by-station s (Refused n) = refl
+by-station s (Read r) = refl
+by-station s (Write r x) = pick (eqb r SZ) _ _ (λ (t : Setup). t .station ≡ s .station) (λ h. refl) (λ h. pick (isFigure r) _ _ (λ (t : Setup). t .station ≡ s .station) (λ g. refl) (λ g. refl))
+by-station s (Act r) =
+    pick (eqb r APPLY) _ _ (λ (t : Setup). t .station ≡ s .station) (λ h. pick (copyFits s) _ _ (λ (t : Setup). t .station ≡ s .station) (λ g. refl) (λ g. refl))
+    (λ h. pick (eqb r RST) _ _ (λ (t : Setup). t .station ≡ s .station) (λ g. refl) (λ g. refl))
+
+step-station : (d : Device) (c : Call) → step d c .setup .station ≡ d .setup .station
+step-station d (reading elec temp integrity) = by (badReading elec temp integrity)
+  where
+    by : (b : Bool) → cond b d (read d elec temp integrity) .setup .station ≡ d .setup .station
+    by true = refl
+    by false = refl
+step-station d (frame bytes room) = by-station (d .setup) (judged bytes room (d .setup .station))
+step-station d report = refl
+
+run-station : (d : Device) (cs : List Call) → run d cs .setup .station ≡ d .setup .station
+run-station d [] = refl
+run-station d (c ∷ cs) = run-station (step d c) cs ∙ step-station d c
+
+module _ (sheet : List ℕ) (station : ℕ) (accepted : made sheet station .number ≡ 0) where
+  pub made-station : (calls : List Call) → run (made sheet station .device) calls .setup .station ≡ station
+  made-station calls = run-station _ calls ∙ ap (λ (d : Device). d .setup .station) (making-accepted sheet station accepted .starts)
+
+  pub some-station : station ≡ 0 → ⊥
+  unfolding stationFits
+  some-station z = is-true (subst (λ (n : ℕ). stationFits n ≡ true) z (making-accepted sheet station accepted .station-fits))
+
+pub reached-station : {d : Device} → Reached d → d .setup .station ≡ 0 → ⊥
+reached-station r z =
+    some-station (r .sheet) (r .station) (r .accepted) (sym (ap (λ (d : Device). d .setup .station) (r .is) ∙ made-station (r .sheet) (r .station) (r .accepted) (r .calls)) ∙ z)
+
+-- "a refused making gives a record of zeros, which is no device"
+pub zeros-not-reached : Reached noDevice → ⊥
+zeros-not-reached r = reached-station r refl
