@@ -2,7 +2,7 @@
 -- it. Assumes nothing.
 use mathlib.Core.Path.{_≡_, refl, sym, ap, _∙_, subst}
 use mathlib.Core.Bool.{Bool, true, false, cond, _||_, _&&_, true≢false}
-use mathlib.Core.List.{List, [], _∷_, _++_, List·Memᴰ·head, List·Memᴰ·tail}
+use mathlib.Core.List.{List, [], _∷_, _++_}
 use Prim.Native.Nat.{ℕ, _≤_}
 use native.Mathlib.Omega.{arith}
 use lib.Bits.{bitAnd, bitOr}
@@ -17,6 +17,8 @@ use Rattle.figures.specs.Unused.{unusedZero}
 use Rattle.modbus.specs.Number.{FLAG, SZ, SYSN, PEAK, TROF, APPLY, RST, SNAP, PEAKRESET}
 use Rattle.modbus.specs.Register.{rangeOf}
 use Rattle.modbus.specs.Ends.{kindSaid}
+use Rattle.modbus.specs.Exception.{topSet, codeSaid, Heard}
+use Rattle.modbus.proofs.Exception.{exceptions-hold}
 use Rattle.panel.specs.Figure.{figureAt, isFigure, withFigure, written}
 use Rattle.panel.proofs.Places.{read-written, others-kept, counts-written}
 use Rattle.state.proofs.Answers.{answer-obeyed}
@@ -176,6 +178,11 @@ module _ (d : Device) (s : List ℕ) (room : ℕ) where
         ∙ ap (λ (b : Bool). cond b [] (answer s room (exceptionBytes s (number d (frame s room))))) (ne-eqb _ 0 code)
         ∙ ap (λ (b : Bool). cond b [] (framed (exceptionBytes s (number d (frame s room))))) answered-aloud
 
+-- and by the papers' table of codes
+pub exception-told : (d : Device) (s : List ℕ) (room n f : ℕ) → number d (frame s room) ≡ n → functionOf s ≡ f → (codeSaid n f ≡ 0 → ⊥) → Heard s room
+    → reply d s room ≡ framed (stationOf s ∷ topSet f ∷ codeSaid n f ∷ [])
+exception-told d s room n f e g code h = refused-reply d s room n e (λ z. code (ap (λ (m : ℕ). codeSaid m f) z)) ∙ exceptions-hold .hold n f code s room h g
+
 -- the buffer and the length, by the entry's own answer
 pub exception : {d : Device} {s before after : List ℕ} {r : Served} → Serving d s before after r → (exceptionCode (r .number) (functionOf s) ≡ 0 → ⊥) → (stationOf s ≡ 0 → ⊥)
     → (r .length ≡ 5) × (after ≡ framed (exceptionBytes s (r .number)) ++ drop 5 before)
@@ -231,7 +238,7 @@ module _ (d : Device) (s : List ℕ) (room : ℕ) where
   rst-shown h e = (
     shown h FLAG refl (ap (λ (g : Device). register g FLAG) (rst-starts e)),
     shown h SZ refl (ap (λ (g : Device). register g SZ) (rst-starts e)),
-    withholds after (reached-station (reached-step h (frame s room))) SYSN (List·Memᴰ·tail (List·Memᴰ·tail (List·Memᴰ·head refl))) (listed-at SYSN refl) (ap (λ (g : Device). register g SYSN) (rst-starts e)),
+    withholds after (reached-station (reached-step h (frame s room))) SYSN refl (listed-at SYSN refl) (ap (λ (g : Device). register g SYSN) (rst-starts e)),
     ap (λ (g : Device). reported (g .state .readings) .number) (rst-starts e),
   )
 

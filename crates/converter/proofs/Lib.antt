@@ -13,6 +13,7 @@ pub mod Agrees
 pub mod Reached
 pub mod Entries
 pub mod Corollaries
+pub mod Writes
 pub mod Panel
 pub mod Example
 pub mod Starred

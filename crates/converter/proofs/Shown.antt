@@ -1,7 +1,7 @@
 -- What the registers and the report show of a device that agrees with the log. Assumes nothing.
 use mathlib.Core.Path.{_≡_, refl, sym, ap, _∙_, subst}
 use mathlib.Core.Bool.{Bool, true, false, cond}
-use mathlib.Core.List.{List, [], _∷_, List·Memᴰ, List·Memᴰ·head, List·Memᴰ·tail, List·Memᴰ·cases-cons, List·Memᴰ·not-nil}
+use mathlib.Core.List.{List, [], _∷_, List·Memᴰ, List·Memᴰ·cases-cons, List·Memᴰ·not-nil}
 use mathlib.Core.Logic.{⊎-elim}
 use mathlib.Core.Option.{Option, none, some}
 use Prim.Native.Nat.{ℕ}
@@ -56,7 +56,7 @@ module _ (d : Device) (station : d .setup .station ≡ 0 → ⊥) where
 
   sysn-shown : (s : Option ℤ) → Taken (d .state .snapshot) s → SysnShown d s
   unfolding registerAt
-  sysn-shown none t = withholds d station SYSN (List·Memᴰ·tail (List·Memᴰ·tail (List·Memᴰ·head refl))) (listed-at SYSN refl) (ap (λ (b : Bool). cond b (Value (stepFloat (d .state .snapshot .sysn))) (Refused 11)) t)
+  sysn-shown none t = withholds d station SYSN refl (listed-at SYSN refl) (ap (λ (b : Bool). cond b (Value (stepFloat (d .state .snapshot .sysn))) (Refused 11)) t)
   sysn-shown (some z) t = shows SYSN refl (rw (t .0, t .1))
 
   pub always-shown : (l : Log) (s : Option ℤ) → d .setup ≡ l .setup → Taken (d .state .snapshot) s → AlwaysShown d l s
@@ -85,7 +85,7 @@ module _ (d : Device) (station : d .setup .station ≡ 0 → ⊥) where
   pub none-shown : d .state .readings .any ≡ false → NoneShown d
   unfolding reported readingAt
   none-shown e = record {
-    values = λ n m. let r = among Read ofReading read n m in withholds d station n (List·Memᴰ·tail (List·Memᴰ·tail (List·Memᴰ·tail (List·Memᴰ·head refl)))) (listed-at n (r .0)) (r .1 ∙ rw e);
+    values = λ n m. let r = among Read ofReading read n m in withholds d station n refl (listed-at n (r .0)) (r .1 ∙ rw e);
     report = rw e;
   }
 

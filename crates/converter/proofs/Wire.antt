@@ -1,8 +1,9 @@
 -- From a register's answer to the bytes of the reply. Assumes nothing.
 use mathlib.Core.Path.{_≡_, refl, ap, _∙_}
 use mathlib.Core.Bool.{Bool, cond}
-use mathlib.Core.List.{List, [], _∷_, List·Memᴰ, List·Memᴰ·head}
+use mathlib.Core.List.{List, [], _∷_}
 use Prim.Native.Nat.{ℕ, _≤_}
+use native.Mathlib.Omega.{arith}
 use lib.Dec.{lit≤}
 use lib.Ieee.{Float}
 use Rattle.binary32.specs.Wire.{sent}
@@ -10,7 +11,7 @@ use Rattle.modbus.specs.Checksum.{framed}
 use Rattle.modbus.specs.Ends.{notListed, kindSaid}
 use Rattle.modbus.specs.Frame.{judged}
 use Rattle.modbus.specs.Master.{readRequest}
-use Rattle.modbus.specs.Exception.{exceptions, Heard, _on_gives_}
+use Rattle.modbus.specs.Exception.{topSet, codeSaid, Heard}
 use Rattle.modbus.specs.Reply.{answer}
 use Rattle.modbus.specs.declared.frame.Frame.{Frame}
 use Rattle.modbus.proofs.Master.{understood}
@@ -48,17 +49,18 @@ module _ (d : Device) (some : d .setup .station ≡ 0 → ⊥) (n : ℕ) where
       let a = by-request d request room (understood (d .setup .station) room some enough .0 .listed n listed) is in
       (a .0, a .1 ∙ ap (λ (b : Bool). cond b [] (framed (d .setup .station ∷ 3 ∷ 4 ∷ sent x))) (heard request room (read-heard enough)))
 
-  refused : {m : ℕ} {f : Frame} → List·Memᴰ (m on 3 gives 2) exceptions → ((room : ℕ) → 9 ≤ room → judged request room (d .setup .station) ≡ f)
+  refused : {m : ℕ} {f : Frame} → codeSaid m 3 ≡ 2 → ((room : ℕ) → 9 ≤ room → judged request room (d .setup .station) ≡ f)
       → answered (d .state) (d .setup) f ≡ Refused m → Withholds d n m
   unfolding framed
-  refused row asks is room enough =
+  refused {m} two asks is room enough =
       let a = by-request d request room (asks room enough) is in
-      (a .0, a .1 ∙ exceptions-hold .hold _ row request room (read-heard enough) refl)
+      let code = exceptions-hold .hold m 3 (λ z. omega (arith, two, z)) request room (read-heard enough) refl in
+      (a .0, a .1 ∙ code ∙ ap (λ (c : ℕ). framed (d .setup .station ∷ topSet 3 ∷ c ∷ [])) two)
 
-  pub withholds : {m : ℕ} → List·Memᴰ (m on 3 gives 2) exceptions → (kindSaid n ≡ notListed → ⊥) → register d n ≡ Refused m → Withholds d n m
+  pub withholds : {m : ℕ} → codeSaid m 3 ≡ 2 → (kindSaid n ≡ notListed → ⊥) → register d n ≡ Refused m → Withholds d n m
   unfolding answered
-  withholds row listed is = refused row (λ room enough. understood (d .setup .station) room some enough .0 .listed n listed) is
+  withholds two listed is = refused two (λ room enough. understood (d .setup .station) room some enough .0 .listed n listed) is
 
   pub unlisted-withheld : kindSaid n ≡ notListed → Withholds d n 15
   unfolding answered
-  unlisted-withheld e = refused (List·Memᴰ·head refl) (λ room enough. understood (d .setup .station) room some enough .0 .unlisted n e) refl
+  unlisted-withheld e = refused refl (λ room enough. understood (d .setup .station) room some enough .0 .unlisted n e) refl

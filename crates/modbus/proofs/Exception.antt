@@ -1,18 +1,19 @@
 -- The exceptions' second statement holds. Assumes nothing.
-use mathlib.Core.Path.{_≡_, refl, sym, subst}
+use mathlib.Core.Path.{_≡_, refl}
 use mathlib.Core.Bool.{Bool, true, false, _&&_}
-use mathlib.Core.List.{List, [], _∷_, List·Memᴰ, List·Memᴰ·cases-cons, List·Memᴰ·not-nil}
-use mathlib.Core.Logic.{_⊎_, inl, inr, ⊎-elim}
+use mathlib.Core.List.{List, [], _∷_}
+use mathlib.Core.Logic.{_⊎_, inl, inr}
 use Prim.Native.Nat.{ℕ, _<_}
 use native.Mathlib.Omega.{arith}
 use borrow.Author.Tests.{ne-eqb, le-ltb}
 use lib.Bits.{bitOr}
 use lib.Dec.{T, eqb, ltb, eqb→eq, ltb→lt}
 use lib.Ieee.Fits.{and-l, and-r}
+use Rattle.integers.proofs.Order.{is-true, pick}
 use Rattle.modbus.specs.Checksum.{framed}
 use Rattle.modbus.specs.Frame.{stationOf, functionOf}
 use Rattle.modbus.specs.Reply.{silent, answer, exceptionCode, exceptionReply}
-use Rattle.modbus.specs.Exception.{Row, exceptions, topSet, Heard, ExceptionsHold}
+use Rattle.modbus.specs.Exception.{Row, exceptions, codeIn, codeSaid, topSet, Heard, ExceptionsHold}
 use Rattle.modbus.proofs.Run.{at-every}
 
 top-set : (f : ℕ) → f < 256 → bitOr f 128 ≡ topSet f
@@ -32,24 +33,24 @@ module _ (s : List ℕ) (room : ℕ) (h : Heard s room) where
 -- ---- the rows, by one computed test
 
 abbrev right : Row → Bool
-right e = eqb (exceptionCode (e .number) (e .function)) (e .code) && (ltb 0 (e .code) && ltb (e .function) 256)
+right e = eqb (exceptionCode (e .number) (e .function)) (e .code) && ltb (e .function) 256
+
+row : (e : Row) (n f : ℕ) → T (right e) → n ≡ e .number → f ≡ e .function → (exceptionCode n f ≡ e .code) × (f < 256)
+row e n f t p q =
+    let a = eqb (exceptionCode (e .number) (e .function)) (e .code) in
+    let b = ltb (e .function) 256 in
+    rw (p, q) (eqb→eq _ _ (and-l a b t), ltb→lt (e .function) 256 (and-r a b t))
 
 abbrev all : List Row → Bool
 all [] = true
 all (e ∷ rest) = right e && all rest
 
-among : (e : Row) (l : List Row) → T (all l) → List·Memᴰ e l → T (right e)
-among e [] t m = absurd (List·Memᴰ·not-nil m)
-among e (x ∷ rest) t m = ⊎-elim (λ p. subst (λ (y : Row). T (right y)) (sym p) (and-l (right x) (all rest) t)) (among e rest (and-r (right x) (all rest) t)) (List·Memᴰ·cases-cons m)
-
-row-holds : (e : Row) → T (right e) → (s : List ℕ) (room : ℕ) → Heard s room → functionOf s ≡ e .function
-    → exceptionReply s room (e .number) ≡ framed (stationOf s ∷ topSet (e .function) ∷ e .code ∷ [])
-row-holds e t s room h f =
-    let a = eqb (exceptionCode (e .number) (e .function)) (e .code) in
-    let b = ltb 0 (e .code) in
-    let c = ltb (e .function) 256 in
-    let some : 0 < e .code = ltb→lt 0 (e .code) (and-l b c (and-r a (b && c) t)) in
-    replies s room h (e .number) (e .code) (e .function) f (eqb→eq _ _ (and-l a (b && c) t)) (λ z. omega arith) (ltb→lt (e .function) 256 (and-r b c (and-r a (b && c) t)))
+found : (l : List Row) (n f : ℕ) → T (all l) → (codeIn l n f ≡ 0 → ⊥) → (exceptionCode n f ≡ codeIn l n f) × (f < 256)
+found [] n f t = λ some. absurd (some refl)
+found (e ∷ rest) n f t =
+    pick (eqb n (e .number) && eqb f (e .function)) (e .code) (codeIn rest n f) (λ (c : ℕ). (c ≡ 0 → ⊥) → (exceptionCode n f ≡ c) × (f < 256))
+    (λ m some. row e n f (and-l (right e) (all rest) t) (eqb→eq n _ (and-l (eqb n (e .number)) (eqb f (e .function)) (is-true m))) (eqb→eq f _ (and-r (eqb n (e .number)) (eqb f (e .function)) (is-true m))))
+    (λ m. found rest n f (and-r (right e) (all rest) t))
 
 none : (s : List ℕ) (room n : ℕ) → (n ≡ 12) ⊎ (n ≡ 13) → exceptionReply s room n ≡ []
 unfolding exceptionReply exceptionCode
@@ -59,7 +60,7 @@ none s room n (inr e) = rw e
 pub exceptions-hold : ExceptionsHold
 unfolding exceptionCode
 exceptions-hold = record {
-  hold = λ e m. row-holds e (among e exceptions tt m);
+  hold = λ n f some s room h e. let r = found exceptions n f tt some in replies s room h n (codeSaid n f) f e (r .0) some (r .1);
   function = λ s room h byte. replies s room h 14 1 (functionOf s) refl refl (λ z. omega arith) byte;
   silence = none;
 }
