@@ -16,18 +16,24 @@ use Rattle.binary32.specs.Received.{counted}
 use Rattle.figures.specs.Unused.{unusedZero}
 use Rattle.register.specs.Number.{FLAG, SZ, SYSN, PEAK, TROF, APPLY, RST, SNAP, PEAKRESET}
 use Rattle.register.specs.Register.{rangeOf}
+use Rattle.register.specs.Ends.{kindSaid}
+use Rattle.modbus.specs.Exception.{topSet, codeSaid, Heard}
+use Rattle.modbus.proofs.Exception.{exceptions-hold}
 use Rattle.panel.specs.Figure.{figureAt, isFigure, withFigure, written}
 use Rattle.panel.proofs.Places.{read-written, others-kept, counts-written}
 use Rattle.answers.proofs.Answers.{answer-obeyed}
 use Rattle.converter.proofs.Entries.{unobeyed}
-use Rattle.converter.proofs.Reached.{reached-sound}
+use Rattle.converter.proofs.Reached.{reached-step, reached-sound}
+use Rattle.converter.proofs.Station.{reached-station}
+use Rattle.converter.proofs.Wire.{register, sends, withholds}
+use Rattle.converter.proofs.Listed.{unlisted, listed-at}
 use Rattle.binary32.specs.Sent.{stepFloat, wholeFloat}
 use Rattle.checksum.specs.Checksum.{framed}
 use Rattle.modbus.specs.Frame.{stationOf, functionOf, forUs, toUs, checked, judged}
-use Rattle.modbus.specs.Reply.{silent, answer, valueReply, writeReply, exceptionCode, exceptionReply}
+use Rattle.modbus.specs.Reply.{silent, answer, writeReply, exceptionCode, exceptionReply}
 use Rattle.modbus.proofs.Replies.{length-framed, value-fits, write-fits, exception-fits}
 use Rattle.modbus.specs.declared.frame.Frame.{Frame}
-use Rattle.modbus.specs.declared.frame.Frame.the-variants.{Read, Write, Act}
+use Rattle.modbus.specs.declared.frame.Frame.the-variants.{Write, Act}
 use Rattle.state.specs.Reading.{badReading, taken}
 use Rattle.in_force.specs.InForce.{withFigures, withCopy, zeroSteps, offered, copyFits, applied, setupWritten, setupActed, setupBy}
 use Rattle.state.specs.Request.{flagWhole, acted, flagged, stateBy, fresh, snapped, peaksAt, peaksReset}
@@ -40,7 +46,7 @@ use Rattle.answers.specs.declared.Answer.the-variants.{Value, Done, Refused}
 use Rattle.converter.specs.Making.{started}
 use Rattle.converter.specs.Call.{Call, reading, frame, report, obeyed, read, step, answerTo, number, replyWith, reply}
 use Rattle.converter.specs.Reached.{Reached, Serving}
-use Rattle.converter.specs.History.{Shows}
+use Rattle.converter.specs.Wire.{Sends, Withholds}
 use Rattle.converter.specs.declared.Device.{Device}
 use Rattle.converter.specs.declared.Served.{Served}
 
@@ -172,6 +178,11 @@ module _ (d : Device) (s : List ℕ) (room : ℕ) where
         ∙ ap (λ (b : Bool). cond b [] (answer s room (exceptionBytes s (number d (frame s room))))) (ne-eqb _ 0 code)
         ∙ ap (λ (b : Bool). cond b [] (framed (exceptionBytes s (number d (frame s room))))) answered-aloud
 
+-- and by the papers' table of codes
+pub exception-told : (d : Device) (s : List ℕ) (room n f : ℕ) → number d (frame s room) ≡ n → functionOf s ≡ f → (codeSaid n f ≡ 0 → ⊥) → Heard s room
+    → reply d s room ≡ framed (stationOf s ∷ topSet f ∷ codeSaid n f ∷ [])
+exception-told d s room n f e g code h = refused-reply d s room n e (λ z. code (ap (λ (m : ℕ). codeSaid m f) z)) ∙ exceptions-hold .hold n f code s room h g
+
 -- the buffer and the length, by the entry's own answer
 pub exception : {d : Device} {s before after : List ℕ} {r : Served} → Serving d s before after r → (exceptionCode (r .number) (functionOf s) ≡ 0 → ⊥) → (stationOf s ≡ 0 → ⊥)
     → (r .length ≡ 5) × (after ≡ framed (exceptionBytes s (r .number)) ++ drop 5 before)
@@ -185,15 +196,6 @@ exception {d} {s} {before} {after} {r} h code ours =
 
 -- ---- what each accepted request does
 
--- a frame that reads register n is accepted where the register shows x, and x is sent
-pub read-replies : (d : Device) (s : List ℕ) (room n : ℕ) (x : Float) → judged s room (d .setup .station) ≡ Read n → Shows d n x
-    → (number d (frame s room) ≡ 0) × (reply d s room ≡ valueReply s room x)
-unfolding answerTo answered
-read-replies d s room n x e shows = (ap numberOf same, ap (replyWith s room) same)
-  where
-    same : answerTo d s room ≡ Value x
-    same = ap (λ (f : Frame). answered (d .state) (d .setup) f) e ∙ shows
-
 module _ (d : Device) (s : List ℕ) (room : ℕ) where
   abbrev pub after : Device
   after = step d (frame s room)
@@ -201,23 +203,27 @@ module _ (d : Device) (s : List ℕ) (room : ℕ) where
   does : (f : Frame) → judged s room (d .setup .station) ≡ f → after ≡ obeyed d f
   does f e = ap (λ (g : Frame). obeyed d g) e
 
+  -- what a register holds then, the next read sends
+  shown : Reached d → (n : ℕ) {x : Float} → unlisted (kindSaid n) ≡ false → register after n ≡ Value x → Sends after n x
+  shown h n listed is = sends after (reached-station (reached-step h (frame s room))) n (listed-at n listed) is
+
   -- "SNAP copies SYS to SYSN"
-  pub snap-shown : judged s room (d .setup .station) ≡ Act SNAP → d .state .readings .any ≡ true → Shows after SYSN (stepFloat (d .state .readings .values .sys))
+  pub snap-shown : Reached d → judged s room (d .setup .station) ≡ Act SNAP → d .state .readings .any ≡ true → Sends after SYSN (stepFloat (d .state .readings .values .sys))
   unfolding setupBy setupActed acted stateBy snapped registerAt
-  snap-shown e any =
+  snap-shown h e any =
       let t = d .state in
       let taken : State = record { readings = t .readings; flag = t .flag; snapshot = record { taken = true; sysn = t .readings .values .sys } } in
-      subst (λ (g : Device). Shows g SYSN (stepFloat (t .readings .values .sys))) (sym (does (Act SNAP) e ∙ ap (λ (b : Bool). record { setup = d .setup; state = cond b taken t }) any)) refl
+      shown h SYSN refl (ap (λ (g : Device). register g SYSN) (does (Act SNAP) e ∙ ap (λ (b : Bool). record { setup = d .setup; state = cond b taken t }) any))
 
   -- a written SZ
-  pub zero-shown : (x : Float) → judged s room (d .setup .station) ≡ Write SZ x → Shows after SZ (stepFloat (zeroSteps x)) × (after .state ≡ d .state)
+  pub zero-shown : Reached d → (x : Float) → judged s room (d .setup .station) ≡ Write SZ x → Sends after SZ (stepFloat (zeroSteps x)) × (after .state ≡ d .state)
   unfolding setupBy setupWritten isFigure stateBy flagged registerAt
-  zero-shown x e = (subst (λ (g : Device). Shows g SZ (stepFloat (zeroSteps x))) (sym (does (Write SZ x) e)) refl, ap (λ (g : Device). g .state) (does (Write SZ x) e))
+  zero-shown h x e = (shown h SZ refl (ap (λ (g : Device). register g SZ) (does (Write SZ x) e)), ap (λ (g : Device). g .state) (does (Write SZ x) e))
 
   -- "a FLAG write clears the bits it lacks"
-  pub flag-shown : (x : Float) → judged s room (d .setup .station) ≡ Write FLAG x → Shows after FLAG (wholeFloat (bitAnd (d .state .flag) (flagWhole x)))
+  pub flag-shown : Reached d → (x : Float) → judged s room (d .setup .station) ≡ Write FLAG x → Sends after FLAG (wholeFloat (bitAnd (d .state .flag) (flagWhole x)))
   unfolding setupBy setupWritten isFigure stateBy flagged registerAt
-  flag-shown x e = subst (λ (g : Device). Shows g FLAG (wholeFloat (bitAnd (d .state .flag) (flagWhole x)))) (sym (does (Write FLAG x) e)) refl
+  flag-shown h x e = shown h FLAG refl (ap (λ (g : Device). register g FLAG) (does (Write FLAG x) e))
 
   -- "RST forgets readings, snapshot and filter", keeps the figures, sets the copy back to them and leaves FLAG 32768: the device is one just
   -- started
@@ -226,25 +232,27 @@ module _ (d : Device) (s : List ℕ) (room : ℕ) where
   rst-starts e = does (Act RST) e
 
   -- so the next reads show REBOOT, the SZ that was in force and no snapshot, and a report is refused
-  pub rst-shown : judged s room (d .setup .station) ≡ Act RST
-      → Shows after FLAG (wholeFloat 32768) × Shows after SZ (stepFloat (d .setup .figures .system .sz)) × (registerAt (after .state) (after .setup .figures .system .sz) (after .setup .copy) SYSN ≡ Refused 11) × (reported (after .state .readings) .number ≡ 10)
+  pub rst-shown : Reached d → judged s room (d .setup .station) ≡ Act RST
+      → Sends after FLAG (wholeFloat 32768) × Sends after SZ (stepFloat (d .setup .figures .system .sz)) × Withholds after SYSN 11 × (reported (after .state .readings) .number ≡ 10)
   unfolding registerAt fresh reported
-  rst-shown e =
-      subst
-      (λ (g : Device). Shows g FLAG (wholeFloat 32768) × Shows g SZ (stepFloat (d .setup .figures .system .sz)) × (registerAt (g .state) (g .setup .figures .system .sz) (g .setup .copy) SYSN ≡ Refused 11) × (reported (g .state .readings) .number ≡ 10))
-      (sym (rst-starts e))
-      (refl, refl, refl, refl)
+  rst-shown h e = (
+    shown h FLAG refl (ap (λ (g : Device). register g FLAG) (rst-starts e)),
+    shown h SZ refl (ap (λ (g : Device). register g SZ) (rst-starts e)),
+    withholds after (reached-station (reached-step h (frame s room))) SYSN refl (listed-at SYSN refl) (ap (λ (g : Device). register g SYSN) (rst-starts e)),
+    ap (λ (g : Device). reported (g .state .readings) .number) (rst-starts e),
+  )
 
   -- "a peak reset, which sets both to the present SYS"
-  pub peaks-shown : judged s room (d .setup .station) ≡ Act PEAKRESET → d .state .readings .any ≡ true
-      → Shows after PEAK (stepFloat (d .state .readings .values .sys)) × Shows after TROF (stepFloat (d .state .readings .values .sys))
+  pub peaks-shown : Reached d → judged s room (d .setup .station) ≡ Act PEAKRESET → d .state .readings .any ≡ true
+      → Sends after PEAK (stepFloat (d .state .readings .values .sys)) × Sends after TROF (stepFloat (d .state .readings .values .sys))
   unfolding setupBy setupActed acted stateBy peaksReset registerAt readingAt readingFloat stepsAt
-  peaks-shown e any =
+  peaks-shown h e any =
       let t = d .state in
       let reset : State = record { readings = peaksAt (t .readings); flag = t .flag; snapshot = t .snapshot } in
       let sys : Float = stepFloat (t .readings .values .sys) in
+      let is : after ≡ record { setup = d .setup; state = reset } = does (Act PEAKRESET) e ∙ ap (λ (b : Bool). record { setup = d .setup; state = cond b reset t }) any in
       let sent : cond (t .readings .any) (Value sys) (Refused 10) ≡ Value sys = ap (λ (b : Bool). cond b (Value sys) (Refused 10)) any in
-      subst (λ (g : Device). Shows g PEAK sys × Shows g TROF sys) (sym (does (Act PEAKRESET) e ∙ ap (λ (b : Bool). record { setup = d .setup; state = cond b reset t }) any)) (sent, sent)
+      (shown h PEAK refl (ap (λ (g : Device). register g PEAK) is ∙ sent), shown h TROF refl (ap (λ (g : Device). register g TROF) is ∙ sent))
 
   -- an accepted write to 99 puts the copy in force, all but SZ, and touches nothing else; `read` (`specs/Call.antt`) takes the next
   -- reading by these figures

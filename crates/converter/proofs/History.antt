@@ -1,5 +1,4 @@
--- Demand 3, the theorem `history`: after any list of calls the device agrees with the log. `Tracks` is what each call keeps.
--- Assumes nothing.
+-- Demand 3: what each call keeps of a device beside the log, `Tracks`. The theorem `history` is in `Agrees.antt`. Assumes nothing.
 use mathlib.Core.Path.{_≡_, refl, sym, ap, ap₂, _∙_, subst}
 use mathlib.Core.Bool.{Bool, true, false, cond, not}
 use mathlib.Core.List.{List, [], _∷_}
@@ -33,10 +32,9 @@ use Rattle.converter.specs.Making.{made, setupOf, started}
 use Rattle.converter.specs.Call.{Call, reading, frame, report, obeyed, read, step, run}
 use Rattle.converter.specs.Log as log
 use Rattle.converter.specs.Log.{Kept, valued, Entry, peakReset, Event, Log, latest, begun, heldBy, keptOf, join, resetPeaks, heed, note, noted, logOf}
-use Rattle.converter.specs.History.{sysSince, Largest, Smallest, Right, Shown, Agrees, History}
+use Rattle.converter.specs.History.{sysSince, Largest, Smallest, Right}
 use Rattle.converter.proofs.Events.{Latched, latch-raised, latch-kept, latch-anew}
 use Rattle.converter.proofs.Extremes.{largest-one, smallest-one, largest-more, smallest-more}
-use Rattle.converter.proofs.Shown.{always-shown, shown}
 use Rattle.converter.proofs.Made.{making-accepted, making-sound}
 use Rattle.converter.proofs.Sound.{Sound, started-sound, step-sound, good-elec, held-within}
 
@@ -46,7 +44,7 @@ use Rattle.converter.proofs.Sound.{Sound, started-sound, step-sound, go
 abbrev heldOf : Readings → Option ℤ
 heldOf r = cond (r .any) (some (r .elec)) none
 
-abbrev Follows : Readings → List Entry → Option Kept → Type 0
+abbrev pub Follows : Readings → List Entry → Option Kept → Type 0
 Follows r es none = (r .any ≡ false) × (sysSince es ≡ [])
 Follows r es (some k) = Right r es k
 
@@ -242,23 +240,3 @@ tracks sheet station h calls =
     let s : Setup = setupOf sheet station in
     subst (λ (d : Device). Tracks (run d calls) (logOf sheet station calls)) (sym (making-accepted sheet station h .starts))
     (runs (started s) (begun s []) (begins s s [] refl (started-sound s (making-sound sheet station h))) calls)
-
--- ---- the claim
-
-pub agrees : (d : Device) (l : Log) → Tracks d l → Agrees d l
-agrees d l t = record {
-  in-force = t .setup-is;
-  latched = t .latched;
-  always-shown = always-shown d l (t .setup-is);
-  none-kept = λ e. unkept (rw e at (t .tells .follows));
-  last-kept = λ k e. kept k (rw e at (t .tells .follows));
-}
-  where
-    unkept : Follows (d .state .readings) (l .readings) none → d .state .readings .any ≡ false
-    unkept f = f .0
-
-    kept : (k : Kept) → Follows (d .state .readings) (l .readings) (some k) → Right (d .state .readings) (l .readings) k × Shown d k
-    kept k f = (f, shown d (l .readings) k f)
-
-pub history : History
-history sheet station h calls = agrees _ _ (tracks sheet station h calls)

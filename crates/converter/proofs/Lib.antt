@@ -1,14 +1,20 @@
 mod Bits
 mod Events
 mod Extremes
-mod Shown
 pub mod Made
+pub mod StationFirst
+pub mod Station
+pub mod Wire
+mod Listed
 pub mod Sound
 pub mod History
+mod Snapshot
+mod Shown
+pub mod Agrees
 pub mod Reached
 pub mod Entries
 pub mod Corollaries
+pub mod Writes
 pub mod Panel
 pub mod Example
 pub mod Starred
-pub mod Station

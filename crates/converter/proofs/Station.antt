@@ -1,43 +1,58 @@
--- A station is judged as specs/Station.antt says. Assumes nothing.
-use mathlib.Core.Path.{_≡_, refl, sym, ap, _∙_}
-use mathlib.Core.Logic.{_↔_}
-use mathlib.Core.Bool.{Bool, true, false, cond, _&&_, false≢true}
-use mathlib.Core.List.{List}
-use Prim.Native.Nat.{ℕ, _≤_}
-use native.Mathlib.Omega.{arith}
-use borrow.Author.Tests.{leb-true, le-leb, eqb-true}
-use lib.Dec.{eqb, leb}
-use Rattle.integers.proofs.Order.{pick}
-use Rattle.sheet.specs.Read.{readSheet, sheetNumber}
-use Rattle.sheet.proofs.Range.{sheet-numbers}
-use Rattle.converter.specs.Making.{stationFits, made, refused}
-use Rattle.converter.specs.Station.{Station, StationFirst}
-use Rattle.converter.specs.declared.Outcome.{Outcome}
+-- A device keeps the station that it was made with, which is never 0; so a record of zeros is no device. Assumes nothing.
+use mathlib.Core.Path.{_≡_, refl, sym, ap, _∙_, subst}
+use mathlib.Core.Bool.{Bool, true, false, cond}
+use mathlib.Core.List.{List, [], _∷_}
+use Prim.Native.Nat.{ℕ}
+use lib.Dec.{eqb}
+use Rattle.integers.proofs.Order.{is-true, pick}
+use Rattle.register.specs.Number.{SZ, APPLY, RST}
+use Rattle.modbus.specs.Frame.{judged}
+use Rattle.modbus.specs.declared.frame.Frame.{Frame}
+use Rattle.modbus.specs.declared.frame.Frame.the-variants.{Refused, Read, Write, Act}
+use Rattle.panel.specs.Figure.{isFigure}
+use Rattle.in_force.specs.InForce.{copyFits, applied, setupWritten, setupActed, setupBy}
+use Rattle.state.specs.Reading.{badReading}
+use Rattle.in_force.specs.declared.Setup.{Setup}
+use Rattle.converter.specs.Making.{stationFits, noDevice, made}
+use Rattle.converter.specs.Call.{Call, reading, frame, report, read, step, run}
+use Rattle.converter.specs.Reached.{Reached}
+use Rattle.converter.specs.declared.Device.{Device}
+use Rattle.converter.proofs.Made.{making-accepted}
 
-fits : (station : ℕ) → (stationFits station ≡ true) ↔ Station station
-unfolding stationFits
-fits station = (by (leb 1 station) (leb station 247) refl refl, λ h. rw (le-leb 1 station (h .least), le-leb station 247 (h .most)) refl)
+by-station : (s : Setup) (f : Frame) → setupBy s f .station ≡ s .station
+unfolding setupBy setupWritten setupActed applied
+by-station s (Refused n) = refl
+by-station s (Read r) = refl
+by-station s (Write r x) = pick (eqb r SZ) _ _ (λ (t : Setup). t .station ≡ s .station) (λ h. refl) (λ h. pick (isFigure r) _ _ (λ (t : Setup). t .station ≡ s .station) (λ g. refl) (λ g. refl))
+by-station s (Act r) =
+    pick (eqb r APPLY) _ _ (λ (t : Setup). t .station ≡ s .station) (λ h. pick (copyFits s) _ _ (λ (t : Setup). t .station ≡ s .station) (λ g. refl) (λ g. refl))
+    (λ h. pick (eqb r RST) _ _ (λ (t : Setup). t .station ≡ s .station) (λ g. refl) (λ g. refl))
+
+step-station : (d : Device) (c : Call) → step d c .setup .station ≡ d .setup .station
+step-station d (reading elec temp integrity) = by (badReading elec temp integrity)
   where
-    by : (a b : Bool) → leb 1 station ≡ a → leb station 247 ≡ b → a && b ≡ true → Station station
-    by true true p q e = record { least = leb-true 1 station p; most = leb-true station 247 q }
-    by true false p q e = absurd (false≢true e)
-    by false b p q e = absurd (false≢true e)
+    by : (b : Bool) → cond b d (read d elec temp integrity) .setup .station ≡ d .setup .station
+    by true = refl
+    by false = refl
+step-station d (frame bytes room) = by-station (d .setup) (judged bytes room (d .setup .station))
+step-station d report = refl
 
-module _ (sheet : List ℕ) (station : ℕ) where
-  judged : Station station → made sheet station .number ≡ sheetNumber sheet
-  unfolding made readSheet
-  judged h = rw (fits station .1 h) (pick (eqb (readSheet sheet .number) 0) _ _ (λ (r : Outcome). r .number ≡ sheetNumber sheet) (λ e. sym (eqb-true _ 0 e)) (λ e. refl))
+run-station : (d : Device) (cs : List Call) → run d cs .setup .station ≡ d .setup .station
+run-station d [] = refl
+run-station d (c ∷ cs) = run-station (step d c) cs ∙ step-station d c
 
-  other : (Station station → ⊥) → made sheet station .number ≡ 8
-  unfolding made readSheet
-  other h = by (stationFits station) refl
-    where
-      by : (b : Bool) → stationFits station ≡ b → made sheet station .number ≡ 8
-      by true e = absurd (h (fits station .0 e))
-      by false e = rw e refl
+module _ (sheet : List ℕ) (station : ℕ) (accepted : made sheet station .number ≡ 0) where
+  pub made-station : (calls : List Call) → run (made sheet station .device) calls .setup .station ≡ station
+  made-station calls = run-station _ calls ∙ ap (λ (d : Device). d .setup .station) (making-accepted sheet station accepted .starts)
 
-  eight : made sheet station .number ≡ 8 → Station station → ⊥
-  eight e h = omega (arith, sym (judged h) ∙ e, sheet-numbers sheet)
+  pub some-station : station ≡ 0 → ⊥
+  unfolding stationFits
+  some-station z = is-true (subst (λ (n : ℕ). stationFits n ≡ true) z (making-accepted sheet station accepted .station-fits))
 
-pub station-first : StationFirst
-station-first = record { fits = fits; refused = λ sheet station. (eight sheet station, other sheet station); judged = judged }
+pub reached-station : {d : Device} → Reached d → d .setup .station ≡ 0 → ⊥
+reached-station r z =
+    some-station (r .sheet) (r .station) (r .accepted) (sym (ap (λ (d : Device). d .setup .station) (r .is) ∙ made-station (r .sheet) (r .station) (r .accepted) (r .calls)) ∙ z)
+
+-- "a refused making gives a record of zeros, which is no device"
+pub zeros-not-reached : Reached noDevice → ⊥
+zeros-not-reached r = reached-station r refl

@@ -1,25 +1,25 @@
 -- Demand 3, one claim about the whole list of calls: the device that comes of it agrees with the log.
 use mathlib.Core.Path.{_≡_}
-use mathlib.Core.Bool.{true, false, cond}
+use mathlib.Core.Bool.{true, false}
 use mathlib.Core.List.{List, [], _∷_, _++_, List·Memᴰ}
 use mathlib.Core.Logic.{_↔_}
 use mathlib.Core.Option.{Option, none, some}
 use Prim.Native.Nat.{ℕ}
-use lib.Ieee.{Float}
 use lib.IntN.{ℤ}
 use lib.Signed.{_≤ℤ_}
 use Rattle.compensation.specs.Stat.{Raised}
 use Rattle.compensation.specs.Faithful.{Faithful}
 use Rattle.binary32.specs.Sent.{stepFloat, wholeFloat}
 use Rattle.register.specs.Number.{STAT, SOUT, SYS, TEMP, SRAW, CELL, FLAG, CRAW, ELEC, SZ, SYSN, PEAK, TROF, APPLY, RST, SNAP, PEAKRESET}
+use Rattle.register.specs.Ends.{notListed, kindSaid}
 use Rattle.panel.specs.Figure.{isFigure, figureFloat}
-use Rattle.answers.specs.Register.{registerAt}
-use Rattle.state.specs.Report.{reported}
+use Rattle.state.specs.Report.{noReport, reported}
 use Rattle.state.specs.declared.Readings.{Readings}
 use Rattle.converter.specs.declared.Device.{Device}
-use Rattle.answers.specs.declared.Answer.the-variants.{Value, Refused}
 use Rattle.converter.specs.Making.{made}
 use Rattle.converter.specs.Call.{Call, run}
+use Rattle.converter.specs.Wire.{Sends, Withholds}
+use Rattle.converter.specs.Snapshot.{sysnOf}
 use Rattle.converter.specs.Log.{Kept, valued, Entry, joined, peakReset, Event, raised, kept, Log, latest, logOf}
 
 -- ---- FLAG: "A bit is set (latched) exactly when raised since its last clearing."
@@ -68,34 +68,45 @@ pub record Right (r : Readings) (entries : List Entry) (k : Kept) : Type 0 where
 
 -- ---- "An accepted read or report of such a value gives its float."
 
--- a read of register n sends x
-abbrev pub Shows : Device → ℕ → Float → Type 0
-Shows d n x = registerAt (d .state) (d .setup .figures .system .sz) (d .setup .copy) n ≡ Value x
+-- 11: "SYSN read with none taken"
+abbrev pub SysnShown : Device → Option ℤ → Type 0
+SysnShown d none = Withholds d SYSN 11
+SysnShown d (some sysn) = Sends d SYSN (stepFloat sysn)
 
--- at all times: FLAG, the SZ in force, SYSN where one was taken (else 11), the copy that the log keeps, and 0.0 for the actions
-pub record AlwaysShown (d : Device) (l : Log) : Type 0 where
-  pub flag : Shows d FLAG (wholeFloat (d .state .flag))
-  pub sz : Shows d SZ (stepFloat (l .setup .figures .system .sz))
-  pub sysn : registerAt (d .state) (d .setup .figures .system .sz) (d .setup .copy) SYSN ≡ cond (d .state .snapshot .taken) (Value (stepFloat (d .state .snapshot .sysn))) (Refused 11)
+-- at all times: FLAG, the SZ in force, SYSN where one was taken, the copy that the log keeps, and 0.0 for the actions
+pub record AlwaysShown (d : Device) (l : Log) (snapshot : Option ℤ) : Type 0 where
+  pub flag : Sends d FLAG (wholeFloat (d .state .flag))
+  pub sz : Sends d SZ (stepFloat (l .setup .figures .system .sz))
+  pub sysn : SysnShown d snapshot
   -- "Reads show that copy at all times"
-  pub copy : (n : ℕ) → isFigure n ≡ true → Shows d n (figureFloat (l .setup .copy) n)
-  pub apply : Shows d APPLY (wholeFloat 0)
-  pub rst : Shows d RST (wholeFloat 0)
-  pub snap : Shows d SNAP (wholeFloat 0)
-  pub peak-reset : Shows d PEAKRESET (wholeFloat 0)
+  pub copy : (n : ℕ) → isFigure n ≡ true → Sends d n (figureFloat (l .setup .copy) n)
+  pub apply : Sends d APPLY (wholeFloat 0)
+  pub rst : Sends d RST (wholeFloat 0)
+  pub snap : Sends d SNAP (wholeFloat 0)
+  pub peak-reset : Sends d PEAKRESET (wholeFloat 0)
+  -- 15: "not twice a listed register"
+  pub unlisted : (n : ℕ) → kindSaid n ≡ notListed → Withholds d n 15
+
+-- 10: "a reading's value .., report, .. before the first reading since start or RST"
+abbrev pub ofReading : List ℕ
+ofReading = STAT ∷ SOUT ∷ SYS ∷ TEMP ∷ SRAW ∷ CELL ∷ CRAW ∷ ELEC ∷ PEAK ∷ TROF ∷ []
+
+pub record NoneShown (d : Device) : Type 0 where
+  pub values : (n : ℕ) → List·Memᴰ n ofReading → Withholds d n 10
+  pub report : reported (d .state .readings) ≡ record { number = 10; report = noReport }
 
 -- once a reading is kept, and k is the last one
 pub record Shown (d : Device) (k : Kept) : Type 0 where
-  pub stat : Shows d STAT (wholeFloat (valued k .stat))
-  pub sout : Shows d SOUT (stepFloat (valued k .sys))
-  pub sys : Shows d SYS (stepFloat (valued k .sys))
-  pub temp : Shows d TEMP (stepFloat (k .temp))
-  pub sraw : Shows d SRAW (stepFloat (valued k .sraw))
-  pub cell : Shows d CELL (stepFloat (valued k .cell))
-  pub craw : Shows d CRAW (stepFloat (valued k .craw))
-  pub elec : Shows d ELEC (stepFloat (k .elec))
-  pub peak : Shows d PEAK (stepFloat (d .state .readings .peak))
-  pub trof : Shows d TROF (stepFloat (d .state .readings .trof))
+  pub stat : Sends d STAT (wholeFloat (valued k .stat))
+  pub sout : Sends d SOUT (stepFloat (valued k .sys))
+  pub sys : Sends d SYS (stepFloat (valued k .sys))
+  pub temp : Sends d TEMP (stepFloat (k .temp))
+  pub sraw : Sends d SRAW (stepFloat (valued k .sraw))
+  pub cell : Sends d CELL (stepFloat (valued k .cell))
+  pub craw : Sends d CRAW (stepFloat (valued k .craw))
+  pub elec : Sends d ELEC (stepFloat (k .elec))
+  pub peak : Sends d PEAK (stepFloat (d .state .readings .peak))
+  pub trof : Sends d TROF (stepFloat (d .state .readings .trof))
   pub report : reported (d .state .readings) ≡ record {
     number = 0;
     report = record { sys = stepFloat (valued k .sys); peak = stepFloat (d .state .readings .peak); trof = stepFloat (d .state .readings .trof); cell = stepFloat (valued k .cell) };
@@ -103,17 +114,18 @@ pub record Shown (d : Device) (k : Kept) : Type 0 where
 
 -- ---- the device beside the log
 
-pub record Agrees (d : Device) (l : Log) : Type 0 where
+pub record Agrees (d : Device) (station : ℕ) (l : Log) (snapshot : Option ℤ) : Type 0 where
+  pub station-is : d .setup .station ≡ station
   -- the figures in force, and the waiting copy
   pub in-force : d .setup ≡ l .setup
   -- FLAG, at all times
   pub latched : (b : ℕ) → Raised b (d .state .flag) ↔ RaisedSince b (l .events)
-  pub always-shown : AlwaysShown d l
+  pub always-shown : AlwaysShown d l snapshot
   -- there is a reading exactly when the log keeps one
-  pub none-kept : latest (l .readings) ≡ none → d .state .readings .any ≡ false
+  pub none-kept : latest (l .readings) ≡ none → (d .state .readings .any ≡ false) × NoneShown d
   pub last-kept : (k : Kept) → latest (l .readings) ≡ some k → Right (d .state .readings) (l .readings) k × Shown d k
 
 -- from sheet bytes and a station that a making accepts, for every list of calls, refused ones included
 abbrev pub History : Type 0
 History = (sheet : List ℕ) (station : ℕ) → made sheet station .number ≡ 0 → (calls : List Call)
-    → Agrees (run (made sheet station .device) calls) (logOf sheet station calls)
+    → Agrees (run (made sheet station .device) calls) station (logOf sheet station calls) (sysnOf sheet station calls)

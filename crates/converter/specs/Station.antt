@@ -1,5 +1,5 @@
 -- Number 8 once more, as properties (01, "Turned-down calls"): a station is "not 1 to 247"; "Making a device checks the station first."
--- `stationFits` and `made` of `Making.antt` go by them (proofs/Station.antt).
+-- `stationFits` and `made` of `Making.antt` go by them (proofs/StationFirst.antt).
 use mathlib.Core.Path.{_≡_}
 use mathlib.Core.Logic.{_↔_}
 use mathlib.Core.Bool.{true}

@@ -5,3 +5,5 @@ pub mod Frames
 pub mod ForUs
 pub mod Asked
 pub mod Order
+pub mod Master
+pub mod Exception

@@ -1,3 +1,5 @@
 pub mod Frame
 pub mod Order
+pub mod Master
 pub mod Reply
+pub mod Exception

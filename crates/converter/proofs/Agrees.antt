@@ -1,0 +1,43 @@
+-- Demand 3, the theorem `history`: after any list of calls the device agrees with the log. Assumes nothing.
+use mathlib.Core.Path.{_≡_, sym, _∙_}
+use mathlib.Core.Bool.{false}
+use mathlib.Core.Option.{none, some}
+use Prim.Native.Nat.{ℕ}
+use Rattle.converter.specs.Making.{made}
+use Rattle.converter.specs.Call.{run}
+use Rattle.converter.specs.Log.{Kept, Log, logOf}
+use Rattle.converter.specs.History.{Right, NoneShown, Shown, History}
+use Rattle.converter.specs.declared.Device.{Device}
+use Rattle.converter.proofs.Station.{made-station, some-station}
+use Rattle.converter.proofs.History.{Follows, tracks}
+use Rattle.converter.proofs.Snapshot.{snapshots}
+use Rattle.converter.proofs.Shown.{always-shown, none-shown, shown}
+
+pub history : History
+history sheet station h calls =
+    let t = tracks sheet station h calls in record {
+      station-is = own;
+      in-force = t .setup-is;
+      latched = t .latched;
+      always-shown = always-shown d to-one l _ (t .setup-is) (snapshots sheet station h calls);
+      none-kept = λ e. unkept (rw e at (t .tells .follows));
+      last-kept = λ k e. kept k (rw e at (t .tells .follows));
+    }
+  where
+    d : Device
+    d = run (made sheet station .device) calls
+
+    l : Log
+    l = logOf sheet station calls
+
+    own : d .setup .station ≡ station
+    own = made-station sheet station h calls
+
+    to-one : d .setup .station ≡ 0 → ⊥
+    to-one e = some-station sheet station h (sym own ∙ e)
+
+    unkept : Follows (d .state .readings) (l .readings) none → (d .state .readings .any ≡ false) × NoneShown d
+    unkept f = (f .0, none-shown d to-one (f .0))
+
+    kept : (k : Kept) → Follows (d .state .readings) (l .readings) (some k) → Right (d .state .readings) (l .readings) k × Shown d k
+    kept k f = (f, shown d to-one (l .readings) k f)

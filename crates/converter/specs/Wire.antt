@@ -1,0 +1,74 @@
+-- What a master gets of a device, in bytes on the wire (01, "The bus"; the requests are those of `modbus/specs/Master.antt`).
+use mathlib.Core.Path.{_≡_}
+use mathlib.Core.Bool.{true, false}
+use mathlib.Core.List.{List, [], _∷_}
+use Prim.Native.Nat.{ℕ, _≤_}
+use lib.Dec.{T}
+use lib.Ieee.{Float, binary32, fits}
+use Rattle.binary32.specs.Received.{takes}
+use Rattle.binary32.specs.Wire.{sent}
+use Rattle.checksum.specs.Checksum.{framed}
+use Rattle.register.specs.Number.{APPLY, RST, SNAP, PEAKRESET}
+use Rattle.register.specs.Register.{rangeOf}
+use Rattle.register.specs.Ends.{notListed, onlyRead, valued, kindSaid}
+use Rattle.modbus.specs.Master.{asking, readRequest, writeRequest, Reaches}
+use Rattle.modbus.specs.Exception.{topSet}
+use Rattle.modbus.specs.declared.frame.Frame.{Frame}
+use Rattle.modbus.specs.declared.frame.Frame.the-variants.{Write, Act}
+use Rattle.in_force.specs.InForce.{copyFits}
+use Rattle.converter.specs.Call.{frame, obeyed, step, number, reply}
+use Rattle.converter.specs.Reached.{Reached}
+use Rattle.converter.specs.declared.Device.{Device}
+
+-- a request's number and the bytes replied, in every buffer that 12 does not turn down
+abbrev pub Answers : Device → List ℕ → ℕ → List ℕ → Type 0
+Answers d request n bytes = (room : ℕ) → 9 ≤ room → (number d (frame request room) ≡ n) × (reply d request room ≡ bytes)
+
+-- ---- a read of register r
+
+-- it sends x: "function 3, 9 bytes"
+abbrev pub Sends : Device → ℕ → Float → Type 0
+Sends d r x = let station = d .setup .station in Answers d (readRequest station r) 0 (framed (station ∷ 3 ∷ 4 ∷ sent x))
+
+-- or is refused with n: "exception, 5 bytes: station, function with its top bit set, code, checksum. Code .. 2 for 15, 11, and 10 on a
+-- read"
+abbrev pub Withholds : Device → ℕ → ℕ → Type 0
+Withholds d r n = let station = d .setup .station in Answers d (readRequest station r) n (framed (station ∷ topSet 3 ∷ 2 ∷ []))
+
+-- ---- a write of x to register r, to the device's station and to all: "Station 0 is broadcast: writes act, nothing is replied, faults
+-- keep their number"
+
+abbrev pub Leaves : Device → ℕ → Float → Device → Type 0
+Leaves d r x after = (receiver room : ℕ) → Reaches receiver (d .setup .station) → 9 ≤ room → step d (frame (writeRequest receiver r x) room) ≡ after
+
+-- it is obeyed: "16, the first 6 bytes and checksum"
+pub record Obeys (d : Device) (r : ℕ) (x : Float) (f : Frame) : Type 0 where
+  pub confirmed : let station = d .setup .station in Answers d (writeRequest station r x) 0 (framed (asking station 16 r))
+  pub broadcast : Answers d (writeRequest 0 r x) 0 []
+  pub does : Leaves d r x (obeyed d f)
+
+-- or refused with n: "No refusal changes a device"
+pub record Rejects (d : Device) (r : ℕ) (x : Float) (n code : ℕ) : Type 0 where
+  pub told : let station = d .setup .station in Answers d (writeRequest station r x) n (framed (station ∷ topSet 16 ∷ code ∷ []))
+  pub broadcast : Answers d (writeRequest 0 r x) n []
+  pub does : Leaves d r x d
+
+-- every register: "Code .. 2 for 15 ..; 3 for 16, and 10 on a write"; 3 for 17 (Change 1)
+pub record WritesHeeded (d : Device) (x : Float) : Type 0 where
+  pub taken : (r : ℕ) → kindSaid r ≡ valued → takes (rangeOf r) x ≡ true → Obeys d r x (Write r x)
+  pub unfit : (r : ℕ) → kindSaid r ≡ valued → takes (rangeOf r) x ≡ false → Rejects d r x 16 3
+  pub read-only : (r : ℕ) → kindSaid r ≡ onlyRead → Rejects d r x 16 3
+  pub unlisted : (r : ℕ) → kindSaid r ≡ notListed → Rejects d r x 15 2
+  pub rst : Obeys d RST x (Act RST)
+  -- 10: "SNAP or peak reset before the first reading since start or RST"
+  pub snap : d .state .readings .any ≡ true → Obeys d SNAP x (Act SNAP)
+  pub no-snap : d .state .readings .any ≡ false → Rejects d SNAP x 10 3
+  pub peak-reset : d .state .readings .any ≡ true → Obeys d PEAKRESET x (Act PEAKRESET)
+  pub no-peak-reset : d .state .readings .any ≡ false → Rejects d PEAKRESET x 10 3
+  -- 17: "unfit copy, for register 99"
+  pub apply : copyFits (d .setup) ≡ true → Obeys d APPLY x (Act APPLY)
+  pub no-apply : copyFits (d .setup) ≡ false → Rejects d APPLY x 17 3
+
+-- of every device that our calls gave, and every float that an f32 can be
+abbrev pub Writes : Type 0
+Writes = (d : Device) → Reached d → (x : Float) → T (fits binary32 x) → WritesHeeded d x
