@@ -10,7 +10,8 @@ use lib.Dec.{eqb, leb}
 use lib.ListN.{length, length-append, take}
 use lib.Seq.{take-length, take-add, drop-cons, take-at, getD-append-add}
 use Rattle.checksum.specs.Checksum.{checksumOf}
-use Rattle.modbus.specs.Frame.{byteAt, stationOf, functionOf, checked, toUs, forUs}
+use Rattle.integers.specs.Bytes.{byteAt}
+use Rattle.modbus.specs.Frame.{stationOf, functionOf, checked, toUs, forUs}
 use Rattle.modbus.specs.Order.{ToUs, ours, toAll, RightChecksum, ForUs}
 
 -- ---- the station
