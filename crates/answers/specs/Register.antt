@@ -2,10 +2,10 @@
 use mathlib.Core.Bool.{cond}
 use Prim.Native.Nat.{ℕ}
 use lib.Dec.{eqb, leb}
-use lib.IntN.{ℤ}
+use lib.IntN.{ℤ, pos}
 use lib.Ieee.{Float}
 use Rattle.binary32.specs.Sent.{stepFloat, wholeFloat}
-use Rattle.register.specs.Number.{STAT, TEMP, SRAW, CELL, FLAG, CRAW, ELEC, SZ, SYSN, PEAK, TROF, CGAI, APPLY, RST}
+use Rattle.register.specs.Number.{STAT, SOUT, SYS, TEMP, SRAW, CELL, FLAG, CRAW, ELEC, SZ, SYSN, PEAK, TROF, CGAI, APPLY, RST}
 use Rattle.modbus.specs.declared.frame.Frame.{Frame}
 use Rattle.modbus.specs.declared.frame.Frame.the-variants as frame
 use Rattle.modbus.specs.declared.frame.Frame.the-variants.{Read, Write, Act}
@@ -19,17 +19,19 @@ use Rattle.answers.specs.declared.Answer.{Answer}
 use Rattle.answers.specs.declared.Answer.the-variants.{Value, Done, Refused}
 
 -- "SOUT 9 and SYS 10 (equal), TEMP 11, SRAW 12, CELL 13, .. CRAW 15, ELEC 16, .. PEAK 24, TROF 25": those of a reading that
--- count in steps. 9 and 10 are the last case, since a judged frame reads no register but listed ones.
+-- count in steps, and no other
 unfoldable pub stepsAt : Readings → ℕ → ℤ
 stepsAt r n =
-    cond (eqb n TEMP) (r .temp)
+    cond (eqb n SOUT) (r .values .sys)
+    (cond (eqb n SYS) (r .values .sys)
+    (cond (eqb n TEMP) (r .temp)
     (cond (eqb n SRAW) (r .values .sraw)
     (cond (eqb n CELL) (r .values .cell)
     (cond (eqb n CRAW) (r .values .craw)
     (cond (eqb n ELEC) (r .elec)
     (cond (eqb n PEAK) (r .peak)
     (cond (eqb n TROF) (r .trof)
-    (r .values .sys)))))))
+    (pos 0)))))))))
 
 -- "STAT and FLAG go as floats of their whole numbers."
 unfoldable pub readingFloat : Readings → ℕ → Float

@@ -34,12 +34,14 @@ pub enum Answer {
     Refused(u8),
 }
 
-// TEMP, SRAW, CELL, CRAW, ELEC, PEAK, TROF, and SYS, which is SOUT too.
+// The registers of a reading that count in steps.
 fn steps_at(r: Readings, register: u32) -> i64
     ensures { λ z. ⌜ z ≡ stepsAt r register ⌝ }
 {
     let v = r.values;
     match register {
+        register::SOUT => v.sys,
+        register::SYS => v.sys,
         register::TEMP => r.temp,
         register::SRAW => v.sraw,
         register::CELL => v.cell,
@@ -47,7 +49,7 @@ fn steps_at(r: Readings, register: u32) -> i64
         register::ELEC => r.elec,
         register::PEAK => r.peak,
         register::TROF => r.trof,
-        _ => v.sys,
+        _ => 0,
     }
 }
 

@@ -17,7 +17,7 @@ use Rattle.arithmetic.proofs.Near.{one-pos, near-whole, near-sub, near-units}
 use Rattle.arithmetic.proofs.Exact.{Small, exact-small, interpolated-near}
 use Rattle.figures.specs.Acceptable.{Acceptable, temperatures, linearities}
 use Rattle.figures.specs.declared.Calibration.{Calibration}
-use Rattle.compensation.specs.Filter.{elecMost}
+use Rattle.compensation.specs.ReadingLimits.{elecMost}
 use Rattle.compensation.specs.Reading.{one, scaled, o, g, y, rawCell, craw, cell, rawSystem, sraw, sys}
 use Rattle.compensation.specs.Values.{valuesOf}
 use Rattle.compensation.specs.Exact.{oF, gF, yF, rawCellF, crawF, cellF, rawSystemF, srawF, sysF}

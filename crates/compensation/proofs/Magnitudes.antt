@@ -17,7 +17,7 @@ use Rattle.figures.specs.declared.Calibration.{Calibration}
 use Rattle.figures.specs.declared.Cell.{Cell}
 use Rattle.figures.specs.declared.Linearity.{Linearity}
 use Rattle.figures.specs.declared.System.{System}
-use Rattle.compensation.specs.Filter.{elecMost}
+use Rattle.compensation.specs.ReadingLimits.{elecMost}
 use Rattle.compensation.specs.Reading.{one, scaled, y, rawCell, craw, cell, rawSystem, sraw, sys}
 use Rattle.compensation.specs.ForCode.{inputAt, yAt, rawCellAt, crawAt, cellAt, rawSystemFrom, srawFrom, sysFrom, cellValuesAt, CellInput, SystemInput, ValuesInput}
 use Rattle.compensation.specs.declared.steps.Input.{Input}

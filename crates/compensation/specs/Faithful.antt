@@ -9,7 +9,7 @@ use Rattle.integers.specs.Within.{_within_}
 use Rattle.arithmetic.specs.Fraction.{Near, Fraction}
 use Rattle.figures.specs.Acceptable.{Acceptable}
 use Rattle.figures.specs.declared.Calibration.{Calibration}
-use Rattle.compensation.specs.Filter.{elecMost}
+use Rattle.compensation.specs.ReadingLimits.{elecMost}
 use Rattle.compensation.specs.Exact.{rawCellF, crawF, cellF, rawSystemF, srawF, sysF}
 use Rattle.compensation.specs.Stat.{Raised, tempUnder, tempOver, elecUnder, elecOver, tempur, tempor, ecomur, ecomor, crawur, crawor, sysur, sysor, lcinteg}
 use Rattle.compensation.specs.Values.{valuesOf}

@@ -8,10 +8,6 @@ use lib.Signed.{ltZ}
 use Rattle.arithmetic.specs.Round.{roundDiv}
 use Rattle.figures.specs.declared.Filter.{Filter}
 
--- the largest magnitude of ELEC that a reading may have (number 9), and so of the held value
-abbrev pub elecMost : ℕ
-elecMost = 19660800
-
 abbrev pub isZero : ℤ → Bool
 isZero (pos n) = eqb n 0
 isZero (negsuc n) = false

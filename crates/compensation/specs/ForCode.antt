@@ -16,7 +16,7 @@ use Rattle.figures.specs.declared.Filter.{Filter}
 use Rattle.figures.specs.declared.Linearity.{Linearity}
 use Rattle.figures.specs.declared.System.{System}
 use Rattle.figures.specs.declared.Temperature.{Temperature}
-use Rattle.compensation.specs.Filter.{elecMost}
+use Rattle.compensation.specs.ReadingLimits.{elecMost}
 use Rattle.compensation.specs.Hold.{hold}
 use Rattle.compensation.specs.Reading.{one, scaled}
 use Rattle.compensation.specs.Stat.{weigh, range, tempUnder, tempOver, elecUnder, elecOver, statOf}

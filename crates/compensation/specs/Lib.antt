@@ -1,3 +1,4 @@
+pub mod ReadingLimits
 pub mod Hold
 pub mod Filter
 pub mod Filtered

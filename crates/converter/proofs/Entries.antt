@@ -8,7 +8,7 @@ use lib.IntN.{ℤ}
 use lib.ListN.{length}
 use Rattle.integers.specs.Within.{_within_}
 use Rattle.figures.specs.Acceptable.{TemperatureAcceptable}
-use Rattle.compensation.specs.Filter.{elecMost}
+use Rattle.compensation.specs.ReadingLimits.{elecMost}
 use Rattle.compensation.specs.ForCode.{inputAt, cellValuesAt, valuesFrom, FilterInput, CellInput, ValuesInput}
 use Rattle.compensation.specs.declared.steps.CellValues.{CellValues}
 use Rattle.compensation.specs.declared.steps.Input.{Input}

@@ -11,7 +11,8 @@ use lib.IntN.{ℤ}
 use Rattle.integers.specs.Within.{_within_}
 use Rattle.figures.specs.Acceptable.{Acceptable}
 use Rattle.figures.specs.declared.Calibration.{Calibration}
-use Rattle.compensation.specs.Filter.{elecMost, filtered}
+use Rattle.compensation.specs.Filter.{filtered}
+use Rattle.compensation.specs.ReadingLimits.{elecMost}
 use Rattle.compensation.specs.Values.{valuesOf}
 use Rattle.compensation.specs.declared.steps.Values.{Values}
 use Rattle.compensation.proofs.Faithful.{faithful}

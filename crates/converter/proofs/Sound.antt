@@ -17,7 +17,7 @@ use Rattle.figures.specs.Representable.{Representable}
 use Rattle.figures.specs.Unused.{unusedZero}
 use Rattle.figures.specs.Limits.{szMost}
 use Rattle.figures.specs.declared.Calibration.{Calibration}
-use Rattle.compensation.specs.Filter.{elecMost}
+use Rattle.compensation.specs.ReadingLimits.{elecMost, tempMost}
 use Rattle.compensation.specs.Reading.{sys}
 use Rattle.compensation.specs.Values.{valuesOf}
 use Rattle.compensation.proofs.FilterHull.{filtered-within}
@@ -33,7 +33,7 @@ use Rattle.sheet.proofs.Theorems.{judged-acceptable}
 use Rattle.modbus.specs.declared.frame.Frame.{Frame}
 use Rattle.modbus.specs.declared.frame.Frame.the-variants.{Refused, Read, Write, Act}
 use Rattle.modbus.specs.Frame.{judged}
-use Rattle.state.specs.Reading.{tempMost, outside, beyond, badReading, larger, smaller, peakAfter, trofAfter, joined, heldAfter, taken, takenWith}
+use Rattle.state.specs.Reading.{outside, beyond, badReading, larger, smaller, peakAfter, trofAfter, joined, heldAfter, taken, takenWith}
 use Rattle.in_force.specs.InForce.{withZero, zeroSteps, withFigures, withCopy, offered, copyFits, applied, setupWritten, setupActed, setupBy}
 use Rattle.state.specs.Request.{noReadings, fresh, snapped, peaksAt, peaksReset, acted, flagged, stateBy}
 use Rattle.state.specs.Within.{valueMost, ReadingsWithin}

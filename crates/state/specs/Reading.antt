@@ -6,16 +6,14 @@ use lib.Dec.{ltb}
 use lib.IntN.{ℤ, pos, negℤ}
 use lib.Signed.{ltZ}
 use Rattle.figures.specs.declared.Calibration.{Calibration}
-use Rattle.compensation.specs.Filter.{elecMost, filtered}
+use Rattle.compensation.specs.ReadingLimits.{elecMost, tempMost}
+use Rattle.compensation.specs.Filter.{filtered}
 use Rattle.compensation.specs.Values.{valuesOf}
 use Rattle.compensation.specs.declared.steps.Values.{Values}
 use Rattle.state.specs.declared.Readings.{Readings}
 use Rattle.state.specs.declared.State.{State}
 
 -- 9: "ELEC beyond ±19,660,800, TEMP beyond ±13,107,200, or integrity byte above 1"
-
-abbrev pub tempMost : ℕ
-tempMost = 13107200
 
 unfoldable pub outside : ℤ → ℤ → ℤ → Bool
 outside least most v = ltZ v least || ltZ most v

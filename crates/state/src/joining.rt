@@ -9,6 +9,15 @@ use crate::State;
 use compensation::Values;
 use figures::Filter;
 
+// The limits of ELEC and TEMP.
+const ELEC_MOST: i64 = 19_660_800;
+
+const ELEC_LEAST: i64 = -ELEC_MOST;
+
+const TEMP_MOST: i64 = 13_107_200;
+
+const TEMP_LEAST: i64 = -TEMP_MOST;
+
 fn is_outside(least: i64, most: i64, v: i64) -> bool
     ensures { λ r. ⌜ r ≡ outside least most v ⌝ }
 {
@@ -22,10 +31,10 @@ fn is_outside(least: i64, most: i64, v: i64) -> bool
 pub fn bad_reading(elec: i64, temp: i64, integrity: u8) -> bool
     ensures { λ r. ⌜ r ≡ badReading elec temp integrity ⌝ }
 {
-    if is_outside(-19_660_800, 19_660_800, elec) {
+    if is_outside(ELEC_LEAST, ELEC_MOST, elec) {
         return true;
     }
-    if is_outside(-13_107_200, 13_107_200, temp) {
+    if is_outside(TEMP_LEAST, TEMP_MOST, temp) {
         return true;
     }
     1 < integrity

@@ -1,5 +1,5 @@
 -- `answers::steps_at` meets its contract, arm by arm. Assumes nothing.
-use mathlib.Core.Path.{sym, ap, _∙_}
+use mathlib.Core.Path.{refl, sym, ap, _∙_}
 use mir.Facts.{toZ-ofZ}
 use borrow.Author.Needs.{sfits-of}
 use borrow.Author.Tests.{ne-eqb}
@@ -37,9 +37,17 @@ returns-7 c = search (toZ-ofZ, sfits-of) ∙ ap (stepsAt (c .before .before .bef
 
 returns-8 : tie.Need-returns-8
 unfolding stepsAt
-returns-8 c =
-    let r = c .before .match .rest in
-    simp (ne-eqb _ _ (r .0 .0 .0 .0 .0 .0 .1), ne-eqb _ _ (r .0 .0 .0 .0 .0 .1), ne-eqb _ _ (r .0 .0 .0 .0 .1), ne-eqb _ _ (r .0 .0 .0 .1), ne-eqb _ _ (r .0 .0 .1), ne-eqb _ _ (r .0 .1), ne-eqb _ _ (r .1)) (search (toZ-ofZ, sfits-of))
+returns-8 c = search (toZ-ofZ, sfits-of) ∙ ap (stepsAt (c .before .before .before .args .r)) (sym (c .before .match .keys8))
+
+returns-9 : tie.Need-returns-9
+unfolding stepsAt
+returns-9 c = search (toZ-ofZ, sfits-of) ∙ ap (stepsAt (c .before .before .before .args .r)) (sym (c .before .match .keys9))
+
+returns-10 : tie.Need-returns-10
+unfolding stepsAt
+returns-10 c =
+    let r = c .match .rest in
+    simp (ne-eqb _ _ (r .0 .0 .0 .0 .0 .0 .0 .0 .1), ne-eqb _ _ (r .0 .0 .0 .0 .0 .0 .0 .1), ne-eqb _ _ (r .0 .0 .0 .0 .0 .0 .1), ne-eqb _ _ (r .0 .0 .0 .0 .0 .1), ne-eqb _ _ (r .0 .0 .0 .0 .1), ne-eqb _ _ (r .0 .0 .0 .1), ne-eqb _ _ (r .0 .0 .1), ne-eqb _ _ (r .0 .1), ne-eqb _ _ (r .1)) refl
 
 pub steps-at-spec : {M : Type 1} → statement M
-steps-at-spec = tie.close (tie.spec returns returns-2 returns-3 returns-4 returns-5 returns-6 returns-7 returns-8)
+steps-at-spec = tie.close (tie.spec returns returns-2 returns-3 returns-4 returns-5 returns-6 returns-7 returns-8 returns-9 returns-10)

@@ -15,7 +15,8 @@ use Rattle.integers.proofs.Magnitude.{within-of}
 use Rattle.integers.proofs.Machine.{fits, small, i64s, known, lt-plain}
 use Rattle.arithmetic.specs.Round.{roundDiv}
 use Rattle.figures.specs.Limits.{fflvMost, ffstMost}
-use Rattle.compensation.specs.Filter.{elecMost, filtered}
+use Rattle.compensation.specs.Filter.{filtered}
+use Rattle.compensation.specs.ReadingLimits.{elecMost}
 use Rattle.compensation.proofs.FilterHull.{filtered-within, on-pos}
 use Rattle.compensation.proofs.FilterCases.{zero-bits, not-zero-bits, more-than-level, within-level, at-first, no-steps, too-far, one-step}
 use Rattle.compensation.proofs.filter.filter_input.Statement.{statement}

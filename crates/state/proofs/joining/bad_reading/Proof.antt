@@ -1,8 +1,8 @@
 -- `state::joining::bad_reading` meets its contract, test by test. Assumes nothing.
 use mathlib.Core.Path.{_≡_, sym, _∙_}
 use mir.ValLaws.{toZ-ofZ}
-use Rattle.compensation.specs.Filter.{elecMost}
-use Rattle.state.specs.Reading.{beyond, tempMost, badReading}
+use Rattle.compensation.specs.ReadingLimits.{elecMost, tempMost}
+use Rattle.state.specs.Reading.{beyond, badReading}
 use Rattle.state.proofs.joining.bad_reading.Statement.{statement}
 use Rattle.state.proofs.joining.bad_reading.Tie as tie
 
