@@ -7,9 +7,9 @@ use Rattle.modbus.proofs.frame.Frame.Laws as R′
 use Rattle.state.specs.Parts.{applies}
 use Rattle.converter.specs.declared.Device.{Device}
 use Rattle.converter.proofs.Device as D
-use Rattle.board.proofs.Walk.{_≡_, refl, sym, ap, subst, ℕ, [], _∷_, List, URA, Val, vptr, SProp, ent, GName, Lft, Share, flft, fobs, fbor, Memory, Routine, Heap, Atoms, Fun, Given, Item, ‵, ⋆, _$_, _∵_, !, qed, move, join}
-use Rattle.board.proofs.Walk.{fjoin, fjoin3, feqI, frame, done, Body, Is, mem, owned, nothing, Bound, says, only, tyBool, tyUnit, bool-lawful, T, hasTy, WT}
-use Rattle.board.proofs.Call.{Callee, triple}
+use Rattle.walks.proofs.Walk.{_≡_, refl, sym, ap, subst, ℕ, [], _∷_, List, URA, Val, vptr, SProp, ent, GName, Lft, Share, flft, fobs, fbor, Memory, Routine, Heap, Atoms, Fun, Given, Item, ‵, ⋆, _$_, _∵_, !, qed, move, join}
+use Rattle.walks.proofs.Walk.{fjoin, fjoin3, feqI, frame, done, Body, Is, mem, owned, nothing, Bound, says, only, tyBool, tyUnit, bool-lawful, T, hasTy, WT}
+use Rattle.walks.proofs.Call.{Callee, triple}
 use Rattle.board.proofs.apply as apply-of
 use Rattle.board.proofs.apply.Symbol as apply-def
 use Rattle.board.proofs.apply.Met as apply-thm

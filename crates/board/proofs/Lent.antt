@@ -24,10 +24,10 @@ use Rattle.converter.proofs.answer.Met as answer-thm
 use Rattle.converter.proofs.refuse as refuse-of
 use Rattle.converter.proofs.refuse.Symbol as refuse-def
 use Rattle.converter.proofs.refuse.Met as refuse-thm
-use Rattle.board.proofs.Walk.{refl, ℕ, _<_, _^_, [], _∷_, List, length, URA, named, w8, w64, Val, vint, vptr, SProp, ent, GName, Lft, Share, ftrue, flft, Memory, Routine, Heap, Atoms, Fun, Given, Item, ‵, _⊛_, ⋆, _$_, _∵_, !, qed, move, drop, split, join}
-use Rattle.board.proofs.Walk.{fjoin, fjoin3, feqI, frame, done, Is, uint-makes, u8, usize, RefT, sliceVal, MutSlice, ShrSlice, owned, nothing, Bound, says, tyBool, bool-lawful}
+use Rattle.walks.proofs.Walk.{refl, ℕ, _<_, _^_, [], _∷_, List, length, URA, named, w8, w64, Val, vint, vptr, SProp, ent, GName, Lft, Share, ftrue, flft, Memory, Routine, Heap, Atoms, Fun, Given, Item, ‵, _⊛_, ⋆, _$_, _∵_, !, qed, move, drop, split, join}
+use Rattle.walks.proofs.Walk.{fjoin, fjoin3, feqI, frame, done, Is, uint-makes, u8, usize, RefT, sliceVal, MutSlice, ShrSlice, owned, nothing, Bound, says, tyBool, bool-lawful}
 use Rattle.board.proofs.Kept.{mach-setup, mach-state, IsDevice, setup-is, state-is}
-use Rattle.board.proofs.Call.{Callee, triple}
+use Rattle.walks.proofs.Call.{Callee, triple}
 use Rattle.board.proofs.Handed.{lent-record}
 use Rattle.board.proofs.obey as obey-of
 use Rattle.board.proofs.obey.Symbol as obey-def

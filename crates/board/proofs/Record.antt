@@ -50,7 +50,7 @@ use Rattle.state.proofs.State.Laws as S′
 use Rattle.converter.specs.declared.Device.{Device}
 use Rattle.converter.proofs.Device as D
 use Rattle.converter.proofs.Device.Laws as D′
-use Rattle.board.proofs.Field.{IsStruct, sub-in}
+use Rattle.walks.proofs.Field.{IsStruct, sub-in}
 use Rattle.board.proofs.Kept.{mach, mach-figures, mach-setup, mach-cell, mach-temperature, mach-linearity, mach-system, mach-filter, mach-state, mach-readings, IsDevice, around, five, three-are}
 use Rattle.board.proofs.Kept.{mach-is, mach-setup-is, mach-five, number, zeroed, refigure, recopy, rezero, rezero-is, restate, tells, figures-tell, state-tells, state-typed, state-is}
 use Rattle.board.proofs.Kept.{setup-is, figures-is, copy-is, five-is, readings-is, sz-is, station-fits}

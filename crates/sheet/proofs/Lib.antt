@@ -18,6 +18,4 @@ pub mod Range
 pub mod Edges
 mod DefaultBytes
 pub mod Steps
-pub mod Locals
-pub mod Gives
 pub mod Apart

@@ -35,7 +35,7 @@ use Rattle.sheet.specs.declared.Cursor.{Cursor}
 use Rattle.sheet.specs.declared.CountStep.{CountStep}
 use Rattle.sheet.specs.declared.FigureStep.{FigureStep}
 use Rattle.sheet.proofs.Apart.{B, mach, Own, token}
-use Rattle.sheet.proofs.Gives.{triple, Says, gives}
+use Rattle.walks.proofs.Gives.{triple, Says, gives}
 use Rattle.sheet.proofs.Cursor as T
 use Rattle.sheet.proofs.Cursor.Laws as T′
 use Rattle.sheet.proofs.CountStep as N

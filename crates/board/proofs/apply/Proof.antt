@@ -6,15 +6,15 @@ use Rattle.figures.proofs.Calibration.Laws as F′
 use Rattle.state.specs.InForce.{offered, accepted, copyFits, applied}
 use Rattle.converter.specs.declared.Device.{Device}
 use Rattle.converter.proofs.Device as D
-use Rattle.board.proofs.Walk.{some, _≡_, refl, sym, ℕ, [], _∷_, List, ℤ, URA, named, Val, vptr, SProp, ent, id⊢, emp, via, fst∗, sep, GName, Lft, Share, ftrue, flft, fobs, fbor, Memory, Routine, Heap, Calls, Loops, WpFn, Atoms, Fun, givenOf, Given, ‵, _⊛_, _$_, _∵_, !, qed}
-use Rattle.board.proofs.Walk.{by, move, keep, drop, split, join, fsplit, fsplit3, fjoin, fjoin3, feqI, suffices, frame, done, look, init, stop, hop, fld}
-use Rattle.board.proofs.Walk.{from, load, of-opd, no-more, assigns, first, returns, returns-within, enter, alloc1, alloc0, params1, pass1, pass0, Body, FmC, owns, Is, mem}
-use Rattle.board.proofs.Walk.{RefT, MutRef, ptr-vals, mut-tells, plain, owned, nothing, onEntry, says, Stays, stay-ref, walkOf, AllGo, goes-ref, Walks, ends-at, walked, bool, bool-makes, vbool, true-lit, false-lit}
-use Rattle.board.proofs.Call.{Callee, AllKnown, calls-plain, local}
+use Rattle.walks.proofs.Walk.{some, _≡_, refl, sym, ℕ, [], _∷_, List, ℤ, URA, named, Val, vptr, SProp, ent, id⊢, emp, via, fst∗, sep, GName, Lft, Share, ftrue, flft, fobs, fbor, Memory, Routine, Heap, Calls, Loops, WpFn, Atoms, Fun, givenOf, Given, ‵, _⊛_, _$_, _∵_, !, qed}
+use Rattle.walks.proofs.Walk.{by, move, keep, drop, split, join, fsplit, fsplit3, fjoin, fjoin3, feqI, suffices, frame, done, look, init, stop, hop, fld}
+use Rattle.walks.proofs.Walk.{from, load, of-opd, no-more, assigns, first, returns, returns-within, enter, alloc1, alloc0, params1, pass1, pass0, Body, FmC, owns, Is, mem}
+use Rattle.walks.proofs.Walk.{RefT, MutRef, ptr-vals, mut-tells, plain, owned, nothing, onEntry, says, Stays, stay-ref, walkOf, AllGo, goes-ref, Walks, ends-at, walked, bool, bool-makes, vbool, true-lit, false-lit}
+use Rattle.walks.proofs.Call.{Callee, AllKnown, calls-plain, local}
 use Rattle.board.proofs.Callees.{offer, is-accepted}
-use Rattle.board.proofs.Branch.{branches-on, skips-to}
-use Rattle.board.proofs.Entered.{walk-entered}
-use Rattle.sheet.proofs.Locals.{frees-all}
+use Rattle.walks.proofs.Branch.{branches-on, skips-to}
+use Rattle.walks.proofs.Entered.{walk-entered}
+use Rattle.walks.proofs.Locals.{frees-all}
 use Rattle.board.proofs.Kept.{mach-figures, number, refigure, refigured, sz-is, copy-is}
 use Rattle.board.proofs.Record.{opens-record, closes-record, setup-at, figures-at, sz-in, copy-in, copies, stores-figures}
 use Rattle.board.proofs.apply.Key.{name as #board·apply}

@@ -20,15 +20,15 @@ use Rattle.converter.specs.declared.Device.{Device}
 use Rattle.converter.specs.declared.Outcome.{Outcome}
 use Rattle.converter.proofs.Entries.{refuses, filters, adjusts, corrects, scales, joins}
 use Rattle.converter.proofs.Device as D
-use Rattle.board.proofs.Walk.{none, some, _≡_, refl, ℕ, _<_, _^_, [], _∷_, List, lit<, ℤ, URA, named, w8, w64, Val, vint, vptr, ofZ, SProp, ent, sep, emp, id⊢, GName, Lft, Share, ftrue, flft, fobs, fbor, Memory, Routine, Heap, Calls, Loops, WpFn, Atoms, Fun, factI, givenOf, Given, ‵, _⊛_}
-use Rattle.board.proofs.Walk.{_$_, _∵_, !, qed, by, move, keep, drop, split, join, fsplit, fsplit3, fjoin, fjoin3, feqI, suffices, frame, done, look, init, stop, hop, fld, from, load, lit, of-opd, no-more, assigns, first, returns, returns-within, enter, alloc1, alloc0, params1, pass1}
-use Rattle.board.proofs.Walk.{pass0, store, Body, FmC, owns, Is, mem, uint-vals, uint-tells, uint-makes, sint-vals, sint-tells, sint-makes, sint-lawful, u8, i64, RefT, MutRef, ptr-vals, mut-tells, plain, owned, nothing, onEntry, says, needs, Stays, stay-ref, stay-none, walkOf, AllGo}
-use Rattle.board.proofs.Walk.{goes-none, goes-ref, Walks, ends-at, walked, yes}
-use Rattle.board.proofs.Call.{Callee, AllKnown, calls-plain, local}
+use Rattle.walks.proofs.Walk.{none, some, _≡_, refl, ℕ, _<_, _^_, [], _∷_, List, lit<, ℤ, URA, named, w8, w64, Val, vint, vptr, ofZ, SProp, ent, sep, emp, id⊢, GName, Lft, Share, ftrue, flft, fobs, fbor, Memory, Routine, Heap, Calls, Loops, WpFn, Atoms, Fun, factI, givenOf, Given, ‵, _⊛_}
+use Rattle.walks.proofs.Walk.{_$_, _∵_, !, qed, by, move, keep, drop, split, join, fsplit, fsplit3, fjoin, fjoin3, feqI, suffices, frame, done, look, init, stop, hop, fld, from, load, lit, of-opd, no-more, assigns, first, returns, returns-within, enter, alloc1, alloc0, params1, pass1}
+use Rattle.walks.proofs.Walk.{pass0, store, Body, FmC, owns, Is, mem, uint-vals, uint-tells, uint-makes, sint-vals, sint-tells, sint-makes, sint-lawful, u8, i64, RefT, MutRef, ptr-vals, mut-tells, plain, owned, nothing, onEntry, says, needs, Stays, stay-ref, stay-none, walkOf, AllGo}
+use Rattle.walks.proofs.Walk.{goes-none, goes-ref, Walks, ends-at, walked, yes}
+use Rattle.walks.proofs.Call.{Callee, AllKnown, calls-plain, local}
 use Rattle.board.proofs.Callees.{bad-reading, held-after, input-at, cell-values, values-from, take}
-use Rattle.board.proofs.Branch.{branches-on, skips-to}
-use Rattle.board.proofs.Entered.{walk-entered}
-use Rattle.sheet.proofs.Locals.{frees-all}
+use Rattle.walks.proofs.Branch.{branches-on, skips-to}
+use Rattle.walks.proofs.Entered.{walk-entered}
+use Rattle.walks.proofs.Locals.{frees-all}
 use Rattle.board.proofs.Kept.{number, mach-state, mach-cell, mach-temperature, mach-linearity, mach-system, mach-filter, mach-readings, restate, restated, five-is, readings-is, state-is}
 use Rattle.board.proofs.Record.{opens-record, closes-record, state-at, filter-in, readings-in, temperature-in, cell-in, linearity-in, system-in, state-in, copies, stores-state}
 use Rattle.board.proofs.converter_reading.Key.{name as #board·converter-reading}

@@ -13,16 +13,16 @@ use Rattle.converter.specs.Call.{obeyed}
 use Rattle.converter.specs.declared.Device.{Device}
 use Rattle.converter.proofs.Entries.{unobeyed}
 use Rattle.converter.proofs.Device as D
-use Rattle.board.proofs.Walk.{none, some, _≡_, refl, sym, ℕ, [], _∷_, List, URA, named, Val, vbool, vptr, SProp, ent, id⊢, emp, via, fst∗, GName, Lft, Share}
-use Rattle.board.proofs.Walk.{ftrue, flft, fres, Memory, Routine, Heap, Calls, Loops, WpFn, Atoms, Fun, givenOf, Given, group, ‵, _⊛_, ⋆, _$_, _∵_, !, qed, by, move, keep}
-use Rattle.board.proofs.Walk.{drop, split, fsplit, fsplit3, fjoin, suffices, frame, done, true-lit, false-lit, look, init, stop, hop, from, addr, of-opd, no-more, assigns, first, returns, returns-within, enter, alloc1, alloc0, params1, pass1, pass0, FmC, owns, Is, bool, bool-makes}
-use Rattle.board.proofs.Walk.{RefT, MutRef, ptr-vals, mut-tells, plain, owned, nothing, onEntry, gave-ref, goes-gave-ref, says, Stays, walkOf, AllGo, Walks, ends-at, walked, stay-none, goes-none, yes}
-use Rattle.board.proofs.Call.{Callee, AllKnown, calls-out, calls-plain, local}
+use Rattle.walks.proofs.Walk.{none, some, _≡_, refl, sym, ℕ, [], _∷_, List, URA, named, Val, vbool, vptr, SProp, ent, id⊢, emp, via, fst∗, GName, Lft, Share}
+use Rattle.walks.proofs.Walk.{ftrue, flft, fres, Memory, Routine, Heap, Calls, Loops, WpFn, Atoms, Fun, givenOf, Given, group, ‵, _⊛_, ⋆, _$_, _∵_, !, qed, by, move, keep}
+use Rattle.walks.proofs.Walk.{drop, split, fsplit, fsplit3, fjoin, suffices, frame, done, true-lit, false-lit, look, init, stop, hop, from, addr, of-opd, no-more, assigns, first, returns, returns-within, enter, alloc1, alloc0, params1, pass1, pass0, FmC, owns, Is, bool, bool-makes}
+use Rattle.walks.proofs.Walk.{RefT, MutRef, ptr-vals, mut-tells, plain, owned, nothing, onEntry, gave-ref, goes-gave-ref, says, Stays, walkOf, AllGo, Walks, ends-at, walked, stay-none, goes-none, yes}
+use Rattle.walks.proofs.Call.{Callee, AllKnown, calls-out, calls-plain, local}
 use Rattle.board.proofs.Callees.{applies, is-obeyed}
 use Rattle.board.proofs.Handed.{apply, to-apply, apply-asks, store, to-store, store-asks}
-use Rattle.board.proofs.Branch.{branches-on, skips-to}
-use Rattle.board.proofs.Entered.{walk-entered}
-use Rattle.sheet.proofs.Locals.{frees-all}
+use Rattle.walks.proofs.Branch.{branches-on, skips-to}
+use Rattle.walks.proofs.Entered.{walk-entered}
+use Rattle.walks.proofs.Locals.{frees-all}
 use Rattle.board.proofs.Kept.{mach-readings, readings-is}
 use Rattle.board.proofs.Record.{opens-record, closes-record, gives-record, readings-in, copies}
 use Rattle.board.proofs.obey.Key.{name as #board·obey}

@@ -16,14 +16,14 @@ use Rattle.state.proofs.State.Laws as S′
 use Rattle.converter.specs.Call.{obeyed}
 use Rattle.converter.specs.declared.Device.{Device}
 use Rattle.converter.proofs.Device as D
-use Rattle.board.proofs.Walk.{none, some, _≡_, refl, ℕ, [], _∷_, List, ℤ, URA, named, Val, vptr, vunit, SProp, ent, id⊢, sep, GName, Lft, Share, ftrue, flft, fobs, fbor, Memory, Routine, Heap, Calls, Loops, WpFn, Atoms, Fun, givenOf, Given, ‵, _⊛_, _$_, _∵_, !, qed}
-use Rattle.board.proofs.Walk.{by, move, keep, drop, split, join, fsplit, fsplit3, fjoin, fjoin3, feqI, suffices, frame, done, unit-lit, look, init, stop, hop, fld, from, load, of-opd, no-more, assigns, first, returns, enter, alloc1, alloc0, params1, pass1, pass0, Body, FmC, owns, Is, mem}
-use Rattle.board.proofs.Walk.{RefT, MutRef, ptr-vals, mut-tells, plain, owned, nothing, onEntry, says, needs, Stays, stay-ref, walkOf, AllGo, goes-ref, Walks, ends-at, walked, stay-none, goes-none, yes}
-use Rattle.board.proofs.Call.{Callee, AllKnown, calls-plain, local}
+use Rattle.walks.proofs.Walk.{none, some, _≡_, refl, ℕ, [], _∷_, List, ℤ, URA, named, Val, vptr, vunit, SProp, ent, id⊢, sep, GName, Lft, Share, ftrue, flft, fobs, fbor, Memory, Routine, Heap, Calls, Loops, WpFn, Atoms, Fun, givenOf, Given, ‵, _⊛_, _$_, _∵_, !, qed}
+use Rattle.walks.proofs.Walk.{by, move, keep, drop, split, join, fsplit, fsplit3, fjoin, fjoin3, feqI, suffices, frame, done, unit-lit, look, init, stop, hop, fld, from, load, of-opd, no-more, assigns, first, returns, enter, alloc1, alloc0, params1, pass1, pass0, Body, FmC, owns, Is, mem}
+use Rattle.walks.proofs.Walk.{RefT, MutRef, ptr-vals, mut-tells, plain, owned, nothing, onEntry, says, needs, Stays, stay-ref, walkOf, AllGo, goes-ref, Walks, ends-at, walked, stay-none, goes-none, yes}
+use Rattle.walks.proofs.Call.{Callee, AllKnown, calls-plain, local}
 use Rattle.board.proofs.Callees.{changes-zero, zero-after, restarts, unused-zero, fresh, changes-state, state-after, copy-after}
-use Rattle.board.proofs.Branch.{branches-on, assigns-to}
-use Rattle.board.proofs.Entered.{walk-entered}
-use Rattle.sheet.proofs.Locals.{frees-all}
+use Rattle.walks.proofs.Branch.{branches-on, assigns-to}
+use Rattle.walks.proofs.Entered.{walk-entered}
+use Rattle.walks.proofs.Locals.{frees-all}
 use Rattle.board.proofs.Kept.{mach-state, mach-figures, number, restate, restated, rezero, rezeroed, recopy, recopied, state-is, sz-is, figures-is, copy-is}
 use Rattle.board.proofs.Record.{opens-record, closes-record, setup-at, figures-at, copy-at, system-at, sz-at, state-at, sz-in, figures-in, copy-in, state-in, copies, stores-state, stores-sz, stores-copy}
 use Rattle.board.proofs.store.Key.{name as #board·store}

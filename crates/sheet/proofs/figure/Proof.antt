@@ -42,9 +42,9 @@ use denote.Exit.{yes}
 use Rattle.sheet.specs.Step.{figureFound, moved, figureStep}
 use Rattle.sheet.specs.declared.Cursor.{Cursor}
 use Rattle.sheet.specs.declared.FigureFound.{FigureFound}
-use Rattle.sheet.proofs.Locals.{frees-all}
+use Rattle.walks.proofs.Locals.{frees-all}
 use Rattle.sheet.proofs.Apart.{B, mach, passed, Own, token, apart, goes-on}
-use Rattle.sheet.proofs.Gives.{triple, Says, gives}
+use Rattle.walks.proofs.Gives.{triple, Says, gives}
 use Rattle.sheet.proofs.Cursor as T
 use Rattle.sheet.proofs.Cursor.Laws as T′
 use Rattle.sheet.proofs.FigureFound as S

@@ -9,7 +9,7 @@ use denote.Struct.Laws as LL
 use Rattle.figures.proofs.Cell as Y
 use Rattle.figures.proofs.Cell.Laws as Y′
 use Rattle.sheet.specs.declared.FigureStep.{FigureStep}
-use Rattle.sheet.proofs.Locals.{frees-all}
+use Rattle.walks.proofs.Locals.{frees-all}
 use Rattle.sheet.proofs.Apart.{token}
 use Rattle.sheet.proofs.CountStep as N
 use Rattle.sheet.proofs.CountStep.Laws as N′

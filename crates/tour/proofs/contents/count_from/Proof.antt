@@ -9,7 +9,7 @@ use denote.Struct.Laws as LL
 use Rattle.sheet.specs.Step.{countFound, countStep}
 use Rattle.sheet.specs.declared.CountFound.{CountFound}
 use Rattle.sheet.specs.declared.CountStep.{CountStep}
-use Rattle.sheet.proofs.Locals.{frees-all}
+use Rattle.walks.proofs.Locals.{frees-all}
 use Rattle.sheet.proofs.Apart.{token}
 use Rattle.sheet.proofs.CountFound as S
 use Rattle.sheet.proofs.CountFound.Laws as S′

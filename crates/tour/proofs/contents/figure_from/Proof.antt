@@ -9,7 +9,7 @@ use denote.Struct.Laws as LL
 use Rattle.sheet.specs.Step.{figureFound, figureStep}
 use Rattle.sheet.specs.declared.FigureFound.{FigureFound}
 use Rattle.sheet.specs.declared.FigureStep.{FigureStep}
-use Rattle.sheet.proofs.Locals.{frees-all}
+use Rattle.walks.proofs.Locals.{frees-all}
 use Rattle.sheet.proofs.Apart.{token}
 use Rattle.sheet.proofs.FigureFound as S
 use Rattle.sheet.proofs.FigureFound.Laws as S′
