@@ -3,5 +3,7 @@ pub mod Call
 pub mod Gives
 pub mod Branch
 pub mod Field
+pub mod Lent
+pub mod Record
 pub mod Locals
 pub mod Entered
