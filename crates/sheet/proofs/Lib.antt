@@ -19,3 +19,4 @@ pub mod Edges
 mod DefaultBytes
 pub mod Steps
 pub mod Apart
+mod Stepped

@@ -1,6 +1,5 @@
 pub mod Walk
 pub mod Call
-pub mod Gives
 pub mod Branch
 pub mod Field
 pub mod Lent
