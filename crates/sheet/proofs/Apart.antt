@@ -24,6 +24,7 @@ use denote.Struct.Declared.{Declared}
 use denote.Struct.Laws as LL
 use denote.Struct.Rest.{all-own, ownAt, rest, own-open, own-out, own-put}
 use denote.Struct.Values.{Values}
+use Rattle.walks.proofs.Lent.{slice, token}
 use Rattle.sheet.specs.Step.{moved}
 use Rattle.sheet.specs.declared.Cursor.{Cursor}
 use Rattle.sheet.proofs.Cursor as T
@@ -38,14 +39,10 @@ abbrev pub mach : Cursor → Val
 mach d = T′.lowered d
 
 abbrev pub passed : Cursor → List Val × (List Val × Unit {0})
-passed d = (sliceVal (d .sheet .ptr) (length (d .sheet .now)) ∷ [], (vint w64 (d .at) ∷ [], tt))
+passed d = (slice (d .sheet) ∷ [], (vint w64 (d .at) ∷ [], tt))
 
 abbrev pub Own : Lft → Cursor → Fml
 Own κ d = B (κ, tt) .own d (mach d ∷ [])
-
--- a share of the token of the one lifetime, as a signature asks it
-abbrev pub token : {M : Type 1} (𝓤 : URA M) → Lft → Share → Item 𝓤
-token 𝓤 κ q = ‵ (flft κ q) ⊛ ‵ ftrue
 
 module _ {M : Type 1} (𝓤 : URA M) (H : Heap 𝓤) (A : Atoms 𝓤) (W : Given 𝓤 H A) (κ : Lft) (q : Share) (d : Cursor) where
   abbrev D : Declared
