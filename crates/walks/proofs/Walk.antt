@@ -13,16 +13,15 @@ pub use base.Fml.{GName, Lft, Share, ftrue, flft, fobs, fbor, fres, fshr-bor}
 pub use prog.Memory.{Memory}
 pub use prog.Model.{Model}
 pub use prog.Routine.{Routine, Env}
-pub use prog.Wp.{Heap, Calls, Loops, WpFn, Tables, Closed}
+pub use prog.Wp.{Heap, Calls, Loops, WpFn, Closed}
 pub use ghost.Atoms.{Atoms, sem}
-pub use contract.Lifetimes.{Lfts}
-pub use contract.Monad.{Fun, fact, factI}
+pub use contract.Monad.{Fun, factI}
 pub use contract.Running.{GhostRules, Running, givenOf, tables}
 pub use types.Kit.{Given, Item, group, ‵, raw, _⊛_, ⋆, _$_, _∵_, !, qed, by, move, keep, drop, use1, split, join, fsplit, fsplit3, fjoin, fjoin3, feqL, feqI, suffices, frame, done}
 pub use types.Run.{unit-lit, true-lit, false-lit, look, init, stop, hop, fld, from, load, addr, of-opd, and-then, no-more, assigns, first, returns, enter, alloc1, alloc0, params1, pass1, pass0, store, lit, returns-within, look-raw}
 pub use types.Part.{agg, whole, sub, look-in}
 pub use types.SemTy.{Body}
-pub use sound.WpLaws.{FmC, fmOf, WpFn-mono}
+pub use sound.WpLaws.{FmC}
 pub use denote.RattleType.{RattleType, owns}
 pub use denote.Laws.{Is, shows}
 pub use denote.Memory.{mem, partAt}
@@ -30,7 +29,7 @@ pub use denote.Plain.{uint-makes, uint-vals, uint-tells, bool-makes, bool-lawful
 pub use denote.Signed.{sint-tells, sint-makes, sint-lawful, sint-vals}
 pub use denote.Builtin.{u8, usize, i64, bool}
 pub use denote.Ref.{RefT, NamedLft, now, MutRef, ptr-vals, mut-tells, ShrRef, shr-tells}
-pub use denote.Slice.{sliceTy, sliceVal, slice-vals, MutSlice, ShrSlice, Room, finally, mut-slice-tells, shr-slice-tells, shr-slice-lawful, shr-slice-copy}
+pub use denote.Slice.{sliceTy, slice-vals, MutSlice, ShrSlice, Room, finally, mut-slice-tells, shr-slice-tells, shr-slice-lawful, shr-slice-copy}
 pub use denote.Signature.{plain, namedLft, shrSliceOf}
 pub use denote.Steps.{only, owned, nothing, looks, shuts, peeks}
 pub use denote.Struct.Declared.{Declared, row, shape}
@@ -39,12 +38,11 @@ pub use denote.Struct.Rest.{all-own, own-shut}
 pub use denote.Struct.Steps.{spelt}
 pub use denote.Struct.Struct.{Struct}
 pub use denote.Struct.Values.{Values, intos}
-pub use denote.Triple.Statement.{Contract, Triple}
+pub use denote.Triple.Statement.{Triple}
 pub use denote.Triple.Bound.{Bound}
 pub use denote.Triple.Entry.{onEntry}
 pub use denote.Triple.Clauses.{Ended, Clauses, closing}
 pub use denote.Triple.Spec.{Meets, tripleOf}
-pub use denote.Triple.Table.{entered, cited}
-pub use denote.Triple.Walked.{gave-ref, goes-gave-ref, says, needs, Stays, stay-ref, stay-dropped, gave-slice, walkOf, AllGo, goes-ref, goes-dropped, goes-gave-slice, Walks, ends-at, walked, stay-none, goes-none, stay-none-ref, goes-none-ref, stay-none-slice, goes-none-slice, walk-meets}
+pub use denote.Triple.Walked.{gave-ref, goes-gave-ref, says, needs, Stays, stay-ref, stay-dropped, gave-slice, walkOf, AllGo, goes-ref, goes-dropped, goes-gave-slice, Walks, ends-at, walked, stay-none, goes-none, stay-none-ref, goes-none-ref, stay-none-slice, goes-none-slice}
 pub use denote.Exit.{yes}
 pub use lib.Dec.{T, lit<}

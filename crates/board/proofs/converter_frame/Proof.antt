@@ -27,7 +27,8 @@ use Rattle.walks.proofs.Walk.{sub, look-in, FmC, owns, Is, mem, u8, RefT, MutRe
 use Rattle.walks.proofs.Walk.{stay-dropped, gave-slice, walkOf, AllGo, goes-dropped, goes-gave-slice, Walks, ends-at, walked, yes}
 use Rattle.walks.proofs.Call.{Callee, AllKnown, calls-out, calls-plain, local}
 use Rattle.board.proofs.Callees.{is-read}
-use Rattle.board.proofs.Lent.{slice, bytes, judge, to-judge, judge-asks, answer, to-answer, answer-asks, acknowledge, to-acknowledge, acknowledge-asks, refuse, to-refuse, refuse-asks, obey, to-obey, obey-asks}
+use Rattle.walks.proofs.Lent.{slice, bytes}
+use Rattle.board.proofs.Lent.{judge, to-judge, judge-asks, answer, to-answer, answer-asks, acknowledge, to-acknowledge, acknowledge-asks, refuse, to-refuse, refuse-asks, obey, to-obey, obey-asks}
 use Rattle.walks.proofs.Branch.{branches-on, skips-to}
 use Rattle.walks.proofs.Entered.{walk-entered}
 use Rattle.walks.proofs.Locals.{frees-all}
