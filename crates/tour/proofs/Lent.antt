@@ -23,7 +23,7 @@ use denote.Plain.{uint-makes}
 use denote.Builtin.{u8, usize}
 use denote.Ref.{RefT, NamedLft}
 use denote.Signature.{namedLft}
-use denote.Slice.{ShrSlice, shr-slice-copy}
+use denote.Slice.{shr-slice-copy}
 use denote.Steps.{nothing, owned}
 use denote.Struct.Laws as LL
 use denote.Struct.Rest.{own-shut}
@@ -31,7 +31,7 @@ use denote.Triple.Bound.{Bound}
 use Rattle.sheet.specs.Step.{started, countStep, figureStep}
 use Rattle.sheet.specs.declared.Cursor.{Cursor}
 use Rattle.walks.proofs.Call.{Callee, triple, Known, gives}
-use Rattle.walks.proofs.Lent.{slice, token, bytes}
+use Rattle.walks.proofs.Lent.{slice, token, bytes, lends}
 use Rattle.sheet.proofs.Apart.{B, mach, Own}
 use Rattle.sheet.proofs.Cursor as T
 use Rattle.sheet.proofs.Cursor.Laws as T′
@@ -67,13 +67,6 @@ abbrev pub figure : Callee
 figure = record { name = figure-def.name; routine = figure-def.routine; ended = figure-of.ended; clauses = figure-of.clauses; met = figure-thm.met; result = F′.mir erased; typed = λ 𝓤 H A W κs r v is. LL.lawful (F.the-type (α (κs .0))) (F′.the-laws (α (κs .0))) 𝓤 H A W .typed r _ is .0 }
 
 module _ {M : Type 1} (𝓤 : URA M) (H : Heap 𝓤) (A : Atoms 𝓤) (W : Given 𝓤 H A) (κ : Lft) (q : Share) (s : RefT (List ℕ)) where
-  -- to `start`
-  pub lends : ent 𝓤 (⋆ 𝓤 H A (token 𝓤 κ q ∷ bytes 𝓤 κ s ∷ [])) (mean 𝓤 H A (((token 𝓤 κ q ⊛ ‵ (owns (ShrSlice (named 0) κ u8 ∷ []) (s, tt) (slice s ∷ [], tt))) ⊛ raw (emp 𝓤)) ⊛ bytes 𝓤 κ s))
-  lends =
-      qed W (token 𝓤 κ q ∷ bytes 𝓤 κ s ∷ []) ∵ move ! (1 ∷ []) $
-      use1 W (bytes 𝓤 κ s ⊛ bytes 𝓤 κ s) (shr-slice-copy 𝓤 H A W (named 0) κ u8 .twice s (slice s ∷ [])) $ split ! $
-      nothing ! $ move ! (1 ∷ 0 ∷ []) $ fjoin ! $ move ! (2 ∷ 0 ∷ []) $ join ! $ nothing ! $ move ! (1 ∷ 0 ∷ []) $ join ! $ frame ! $ done !
-
   -- to `count` and `figure`
   pub hands : (n : ℕ) → n < 2 ^ 64 → ent 𝓤 (⋆ 𝓤 H A (token 𝓤 κ q ∷ bytes 𝓤 κ s ∷ []))
       (mean 𝓤 H A (((token 𝓤 κ q ⊛ ‵ (owns (B (κ, tt) ∷ []) (cursorAt s n, tt) (mach (cursorAt s n) ∷ [], tt))) ⊛ raw (emp 𝓤)) ⊛ bytes 𝓤 κ s))
