@@ -92,7 +92,7 @@ use Rattle.in_force.proofs.is_accepted.Met as is-accepted-thm
 use Rattle.state.proofs.fresh as fresh-of
 use Rattle.state.proofs.fresh.Symbol as fresh-def
 use Rattle.state.proofs.fresh.Met as fresh-thm
-use Rattle.board.proofs.Call.{Plain}
+use Rattle.walks.proofs.Call.{Plain}
 
 abbrev pub changes-state : Plain
 changes-state = record {

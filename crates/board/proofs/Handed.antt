@@ -7,9 +7,10 @@ use Rattle.modbus.proofs.frame.Frame.Laws as R′
 use Rattle.answers.specs.Parts.{applies}
 use Rattle.converter.specs.declared.Device.{Device}
 use Rattle.converter.proofs.Device as D
-use Rattle.board.proofs.Walk.{_≡_, refl, sym, ap, subst, ℕ, [], _∷_, List, URA, Val, vptr, SProp, ent, GName, Lft, Share, flft, fobs, fbor, Memory, Routine, Heap, Atoms, Fun, Given, Item, ‵, ⋆, _$_, _∵_, !, qed, move, join}
-use Rattle.board.proofs.Walk.{fjoin, fjoin3, feqI, frame, done, Body, Is, mem, owned, nothing, Bound, says, only, tyBool, tyUnit, bool-lawful, T, hasTy, WT}
-use Rattle.board.proofs.Call.{Callee, triple}
+use Rattle.walks.proofs.Walk.{_≡_, refl, sym, ap, subst, ℕ, [], _∷_, List, URA, Val, vptr, SProp, ent, GName, Lft, Share, Memory, Routine, Heap, Atoms, Fun, Given, ⋆, _$_, _∵_, !, qed, move, join}
+use Rattle.walks.proofs.Walk.{fjoin, fjoin3, feqI, frame, done, Is, owned, nothing, Bound, says, only, tyBool, tyUnit, bool-lawful, T, hasTy, WT}
+use Rattle.walks.proofs.Call.{Callee, triple}
+use Rattle.walks.proofs.Lent.{lent-record}
 use Rattle.board.proofs.apply as apply-of
 use Rattle.board.proofs.apply.Symbol as apply-def
 use Rattle.board.proofs.apply.Met as apply-thm
@@ -23,10 +24,6 @@ apply = record { name = apply-def.name; routine = apply-def.routine; ended = app
 abbrev pub store : Callee
 store = record { name = store-def.name; routine = store-def.routine; ended = store-of.ended; clauses = store-of.clauses; met = store-thm.met; result = tyUnit; typed = λ 𝓤 H A W κs r v is. subst (λ (u : Val). T (hasTy tyUnit u) × WT u) (sym (ap only is)) (tt, tt) }
 
--- the record, lent for a lifetime
-abbrev pub lent-record : {M : Type 1} (𝓤 : URA M) → Lft → Share → ℕ → ℕ → GName → Device → List (Item 𝓤)
-lent-record 𝓤 κ q b o γ h = ‵ (fobs γ (D.the-row .coded .code h)) ∷ ‵ (fbor κ (Body (mem D.the-row) b o γ)) ∷ ‵ (flft κ q) ∷ []
-
 module _ {M : Type 1} (𝓤 : URA M) (H : Heap 𝓤) (A : Atoms 𝓤) (κ : Lft) (q : Share) (b o : ℕ) (γ : GName) (h : Device) where
   abbrev pub to-apply : Bound 𝓤 H A (apply .ended .signature)
   to-apply = ((κ, tt), (q, tt), tt, (record { ptr = (b, o); name = γ; now = h }, tt), (vptr b o ∷ [], tt))
@@ -35,12 +32,12 @@ module _ {M : Type 1} (𝓤 : URA M) (H : Heap 𝓤) (A : Atoms 𝓤) (κ : Lft)
   to-store a va = ((κ, tt), (q, tt), tt, (record { ptr = (b, o); name = γ; now = h }, (a, tt)), (vptr b o ∷ [], (va ∷ [], tt)))
 
 module _ {M : Type 1} (𝓤 : URA M) (H : Heap 𝓤) (A : Atoms 𝓤) (W : Given 𝓤 H A) (mem-at : Memory → SProp 𝓤) (run : Routine → Fun 𝓤) (κ : Lft) (q : Share) (b o : ℕ) (γ : GName) (h : Device) where
-  pub apply-asks : ent 𝓤 (⋆ 𝓤 H A (lent-record 𝓤 κ q b o γ h)) (triple 𝓤 H A mem-at run apply .pre (to-apply 𝓤 H A κ q b o γ h, tt))
+  pub apply-asks : ent 𝓤 (⋆ 𝓤 H A (lent-record 𝓤 D.the-row κ q b o γ h)) (triple 𝓤 H A mem-at run apply .pre (to-apply 𝓤 H A κ q b o γ h, tt))
   apply-asks =
-      qed W (lent-record 𝓤 κ q b o γ h) ∵ nothing ! $ move ! (1 ∷ 2 ∷ []) $ feqI ! (List Val) (vptr b o ∷ []) (vptr b o ∷ []) refl $ fjoin3 ! $ fjoin ! $
+      qed W (lent-record 𝓤 D.the-row κ q b o γ h) ∵ nothing ! $ move ! (1 ∷ 2 ∷ []) $ feqI ! (List Val) (vptr b o ∷ []) (vptr b o ∷ []) refl $ fjoin3 ! $ fjoin ! $
       nothing ! $ move ! (2 ∷ 0 ∷ []) $ join ! $ join ! $ frame ! $ done !
 
-  pub store-asks : (a : Frame) (va : Val) → Is R.the-row a (va ∷ []) → applies a ≡ false → ent 𝓤 (⋆ 𝓤 H A (lent-record 𝓤 κ q b o γ h)) (triple 𝓤 H A mem-at run store .pre (to-store 𝓤 H A κ q b o γ h a va, tt))
+  pub store-asks : (a : Frame) (va : Val) → Is R.the-row a (va ∷ []) → applies a ≡ false → ent 𝓤 (⋆ 𝓤 H A (lent-record 𝓤 D.the-row κ q b o γ h)) (triple 𝓤 H A mem-at run store .pre (to-store 𝓤 H A κ q b o γ h a va, tt))
   store-asks a va a-is free =
-      qed W (lent-record 𝓤 κ q b o γ h) ∵ says ! free $ nothing ! $ move ! (3 ∷ 0 ∷ []) $ join ! $ frame ! $ feqI ! (List Val) (vptr b o ∷ []) (vptr b o ∷ []) refl $ fjoin3 ! $
+      qed W (lent-record 𝓤 D.the-row κ q b o γ h) ∵ says ! free $ nothing ! $ move ! (3 ∷ 0 ∷ []) $ join ! $ frame ! $ feqI ! (List Val) (vptr b o ∷ []) (vptr b o ∷ []) refl $ fjoin3 ! $
       nothing ! $ owned ! R.the-row (Is R.the-row) (EL.makes R.the-type R′.the-plain 𝓤 H A) a (va ∷ []) a-is $ fjoin ! $ move ! (1 ∷ 0 ∷ []) $ fjoin ! $ done !

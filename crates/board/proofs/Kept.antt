@@ -15,6 +15,7 @@ use denote.Builtin.{i64}
 use denote.Signed.{sint-tells}
 use denote.Laws.{Is, Tells}
 use denote.Struct.Laws as LL
+use Rattle.walks.proofs.Record.{Lendable}
 use Rattle.figures.specs.declared.Cell.{Cell}
 use Rattle.figures.specs.declared.Temperature.{Temperature}
 use Rattle.figures.specs.declared.Linearity.{Linearity}
@@ -79,6 +80,10 @@ state-tells = LL.tells S.the-type S′.the-laws
 pub figures-tell : Tells F.the-row (Is F.the-row) (λ c. mach-figures c ∷ [])
 unfolding mach-figures
 figures-tell = LL.tells F.the-type F′.the-laws
+
+-- as the walks take the record
+abbrev pub device : Lendable
+device = record { row = D.the-row; mir = D′.mir; one = refl; mach = mach; tells = tells; makes = LL.makes D.the-type D′.the-plain }
 
 -- a state's machine value, and that of figures, is the one named
 pub known : (s : State) (v : Val) → Is S.the-row s (v ∷ []) → IsState s

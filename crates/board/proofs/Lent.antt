@@ -16,6 +16,7 @@ use Rattle.state.proofs.State as S
 use Rattle.state.proofs.State.Laws as S′
 use Rattle.converter.specs.Reached.{Reached}
 use Rattle.converter.specs.declared.Device.{Device}
+use Rattle.converter.proofs.Device as D
 use Rattle.converter.proofs.bus.Answered as B
 use Rattle.converter.proofs.bus.Answered.Laws as B′
 use Rattle.converter.proofs.acknowledge as acknowledge-of
@@ -27,11 +28,11 @@ use Rattle.converter.proofs.answer.Met as answer-thm
 use Rattle.converter.proofs.refuse as refuse-of
 use Rattle.converter.proofs.refuse.Symbol as refuse-def
 use Rattle.converter.proofs.refuse.Met as refuse-thm
-use Rattle.board.proofs.Walk.{refl, ℕ, _<_, _^_, [], _∷_, List, length, URA, named, w8, w64, Val, vint, vptr, SProp, ent, GName, Lft, Share, ftrue, flft, Memory, Routine, Heap, Atoms, Fun, Given, Item, ‵, _⊛_, ⋆, _$_, _∵_, !, qed, move, drop, split, join}
-use Rattle.board.proofs.Walk.{fjoin, fjoin3, feqI, frame, done, Is, uint-makes, u8, usize, RefT, sliceVal, MutSlice, ShrSlice, owned, nothing, Bound, says, tyBool, bool-lawful}
+use Rattle.walks.proofs.Walk.{refl, ℕ, _<_, _^_, [], _∷_, List, URA, w8, w64, Val, vint, vptr, SProp, ent, GName, Lft, Share, flft, Memory, Routine, Heap, Atoms, Fun, Given, ‵, ⋆, _$_, _∵_, !, qed, move, drop, split, join}
+use Rattle.walks.proofs.Walk.{fjoin, fjoin3, feqI, frame, done, Is, uint-makes, u8, usize, RefT, owned, nothing, Bound, says, tyBool, bool-lawful}
 use Rattle.board.proofs.Kept.{mach-setup, mach-state, IsDevice, setup-is, state-is}
-use Rattle.board.proofs.Call.{Callee, triple}
-use Rattle.board.proofs.Handed.{lent-record}
+use Rattle.walks.proofs.Call.{Callee, triple}
+use Rattle.walks.proofs.Lent.{slice, bytes, lent, lent-record}
 use Rattle.board.proofs.obey as obey-of
 use Rattle.board.proofs.obey.Symbol as obey-def
 use Rattle.board.proofs.obey.Met as obey-thm
@@ -51,14 +52,6 @@ refuse = record { name = refuse-def.name; routine = refuse-def.routine; ended = 
 abbrev pub obey : Callee
 obey = record { name = obey-def.name; routine = obey-def.routine; ended = obey-of.ended; clauses = obey-of.clauses; met = obey-thm.met; result = tyBool; typed = λ 𝓤 H A W κs r v is. bool-lawful 𝓤 H A W .typed r _ is .0 }
 
--- the machine value of a slice of bytes
-abbrev pub slice : RefT (List ℕ) → Val
-slice x = sliceVal (x .ptr) (length (x .now))
-
--- the frame, lent for a lifetime
-abbrev pub bytes : {M : Type 1} (𝓤 : URA M) → Lft → RefT (List ℕ) → Item 𝓤
-bytes 𝓤 κ x = ‵ (ShrSlice (named 0) κ u8 .own x (slice x ∷ []))
-
 module _ {M : Type 1} (𝓤 : URA M) (H : Heap 𝓤) (A : Atoms 𝓤) (κ : Lft) (q : Share) (x : RefT (List ℕ)) (room station : ℕ) where
   abbrev pub to-judge : Bound 𝓤 H A (judge .ended .signature)
   to-judge = ((κ, tt), (q, tt), tt, (x, (room, (station, tt))), (slice x ∷ [], (vint w64 room ∷ [], (vint w8 station ∷ [], tt))))
@@ -74,14 +67,10 @@ module _ {M : Type 1} (𝓤 : URA M) (H : Heap 𝓤) (A : Atoms 𝓤) (κ₁ κ�
   to-answer =
       ((κ₁, (κ₂, tt)), (q₁, (q₂, tt)), tt, (h .state, (h .setup, (a, (xf, (xr, tt))))), (mach-state (h .state) ∷ [], (mach-setup (h .setup) ∷ [], (va ∷ [], (slice xf ∷ [], (slice xr ∷ [], tt))))))
 
--- the frame and the reply, lent for their lifetimes
-abbrev lent : {M : Type 1} (𝓤 : URA M) (H : Heap 𝓤) (A : Atoms 𝓤) (W : Given 𝓤 H A) (κ₁ κ₂ : Lft) (q₁ q₂ : Share) (xf xr : RefT (List ℕ)) → List (Item 𝓤)
-lent 𝓤 H A W κ₁ κ₂ q₁ q₂ xf xr = ((‵ (flft κ₁ q₁) ⊛ ‵ ftrue) ⊛ (‵ (flft κ₂ q₂) ⊛ ‵ ftrue)) ∷ bytes 𝓤 κ₁ xf ∷ ‵ (MutSlice (named 1) κ₂ u8 .own xr (slice xr ∷ [])) ∷ []
-
 module _ {M : Type 1} (𝓤 : URA M) (H : Heap 𝓤) (A : Atoms 𝓤) (W : Given 𝓤 H A) (mem-at : Memory → SProp 𝓤) (run : Routine → Fun 𝓤) (κ₁ κ₂ : Lft) (q₁ q₂ : Share) (xf xr : RefT (List ℕ)) (h : Device) (a : Frame) (va : Val) where
-  pub answer-asks : isRead a ≡ true → Reached h → IsDevice h → Is R.the-row a (va ∷ []) → ent 𝓤 (⋆ 𝓤 H A (lent 𝓤 H A W κ₁ κ₂ q₁ q₂ xf xr)) (triple 𝓤 H A mem-at run answer .pre (to-answer 𝓤 H A κ₁ κ₂ q₁ q₂ xf xr h a va, tt))
+  pub answer-asks : isRead a ≡ true → Reached h → IsDevice h → Is R.the-row a (va ∷ []) → ent 𝓤 (⋆ 𝓤 H A (lent 𝓤 κ₁ κ₂ q₁ q₂ xf xr)) (triple 𝓤 H A mem-at run answer .pre (to-answer 𝓤 H A κ₁ κ₂ q₁ q₂ xf xr h a va, tt))
   answer-asks is-so reached was a-is =
-      qed W (lent 𝓤 H A W κ₁ κ₂ q₁ q₂ xf xr) ∵ split ! $ split ! $ move ! (1 ∷ []) $ drop ! $ join ! $
+      qed W (lent 𝓤 κ₁ κ₂ q₁ q₂ xf xr) ∵ split ! $ split ! $ move ! (1 ∷ []) $ drop ! $ join ! $
       says ! (is-so, record { device = h; reached = reached; state-is = refl; setup-is = refl }) $ frame ! $ nothing ! $ move ! (2 ∷ 0 ∷ []) $ fjoin ! $ move ! (1 ∷ 0 ∷ []) $ fjoin ! $
       owned ! R.the-row (Is R.the-row) (EL.makes R.the-type R′.the-plain 𝓤 H A) a (va ∷ []) a-is $ fjoin ! $ owned ! U.the-row (Is U.the-row) (LL.makes U.the-type U′.the-plain 𝓤 H A) (h .setup) _ (setup-is h was) $ fjoin ! $
       owned ! S.the-row (Is S.the-row) (LL.makes S.the-type S′.the-plain 𝓤 H A) (h .state) _ (state-is h was) $ fjoin ! $ done !
@@ -94,14 +83,14 @@ module _ {M : Type 1} (𝓤 : URA M) (H : Heap 𝓤) (A : Atoms 𝓤) (κ₁ κ�
   to-refuse a va = ((κ₁, (κ₂, tt)), (q₁, (q₂, tt)), tt, (a, (xf, (xr, tt))), (va ∷ [], (slice xf ∷ [], (slice xr ∷ [], tt))))
 
 module _ {M : Type 1} (𝓤 : URA M) (H : Heap 𝓤) (A : Atoms 𝓤) (W : Given 𝓤 H A) (mem-at : Memory → SProp 𝓤) (run : Routine → Fun 𝓤) (κ₁ κ₂ : Lft) (q₁ q₂ : Share) (xf xr : RefT (List ℕ)) where
-  pub acknowledge-asks : ent 𝓤 (⋆ 𝓤 H A (lent 𝓤 H A W κ₁ κ₂ q₁ q₂ xf xr)) (triple 𝓤 H A mem-at run acknowledge .pre (to-acknowledge 𝓤 H A κ₁ κ₂ q₁ q₂ xf xr, tt))
+  pub acknowledge-asks : ent 𝓤 (⋆ 𝓤 H A (lent 𝓤 κ₁ κ₂ q₁ q₂ xf xr)) (triple 𝓤 H A mem-at run acknowledge .pre (to-acknowledge 𝓤 H A κ₁ κ₂ q₁ q₂ xf xr, tt))
   acknowledge-asks =
-      qed W (lent 𝓤 H A W κ₁ κ₂ q₁ q₂ xf xr) ∵ split ! $ split ! $ move ! (1 ∷ []) $ drop ! $ join ! $
+      qed W (lent 𝓤 κ₁ κ₂ q₁ q₂ xf xr) ∵ split ! $ split ! $ move ! (1 ∷ []) $ drop ! $ join ! $
       nothing ! $ move ! (3 ∷ 0 ∷ []) $ fjoin ! $ move ! (2 ∷ 0 ∷ []) $ fjoin ! $ move ! (1 ∷ 0 ∷ []) $ join ! $ frame ! $ done !
 
-  pub refuse-asks : (a : Frame) (va : Val) → Is R.the-row a (va ∷ []) → ent 𝓤 (⋆ 𝓤 H A (lent 𝓤 H A W κ₁ κ₂ q₁ q₂ xf xr)) (triple 𝓤 H A mem-at run refuse .pre (to-refuse 𝓤 H A κ₁ κ₂ q₁ q₂ xf xr a va, tt))
+  pub refuse-asks : (a : Frame) (va : Val) → Is R.the-row a (va ∷ []) → ent 𝓤 (⋆ 𝓤 H A (lent 𝓤 κ₁ κ₂ q₁ q₂ xf xr)) (triple 𝓤 H A mem-at run refuse .pre (to-refuse 𝓤 H A κ₁ κ₂ q₁ q₂ xf xr a va, tt))
   refuse-asks a va a-is =
-      qed W (lent 𝓤 H A W κ₁ κ₂ q₁ q₂ xf xr) ∵ split ! $ split ! $ move ! (1 ∷ []) $ drop ! $ join ! $
+      qed W (lent 𝓤 κ₁ κ₂ q₁ q₂ xf xr) ∵ split ! $ split ! $ move ! (1 ∷ []) $ drop ! $ join ! $
       nothing ! $ move ! (3 ∷ 0 ∷ []) $ fjoin ! $ move ! (2 ∷ 0 ∷ []) $ fjoin ! $
       owned ! R.the-row (Is R.the-row) (EL.makes R.the-type R′.the-plain 𝓤 H A) a (va ∷ []) a-is $ fjoin ! $ move ! (1 ∷ 0 ∷ []) $ join ! $ frame ! $ done !
 
@@ -110,7 +99,7 @@ module _ {M : Type 1} (𝓤 : URA M) (H : Heap 𝓤) (A : Atoms 𝓤) (κ : Lft)
   to-obey = ((κ, tt), (q, tt), tt, (record { ptr = (b, o); name = γ; now = h }, (a, tt)), (vptr b o ∷ [], (va ∷ [], tt)))
 
 module _ {M : Type 1} (𝓤 : URA M) (H : Heap 𝓤) (A : Atoms 𝓤) (W : Given 𝓤 H A) (mem-at : Memory → SProp 𝓤) (run : Routine → Fun 𝓤) (κ : Lft) (q : Share) (b o : ℕ) (γ : GName) (h : Device) (a : Frame) (va : Val) where
-  pub obey-asks : Is R.the-row a (va ∷ []) → ent 𝓤 (⋆ 𝓤 H A (lent-record 𝓤 κ q b o γ h)) (triple 𝓤 H A mem-at run obey .pre (to-obey 𝓤 H A κ q b o γ h a va, tt))
+  pub obey-asks : Is R.the-row a (va ∷ []) → ent 𝓤 (⋆ 𝓤 H A (lent-record 𝓤 D.the-row κ q b o γ h)) (triple 𝓤 H A mem-at run obey .pre (to-obey 𝓤 H A κ q b o γ h a va, tt))
   obey-asks a-is =
-      qed W (lent-record 𝓤 κ q b o γ h) ∵ nothing ! $ owned ! R.the-row (Is R.the-row) (EL.makes R.the-type R′.the-plain 𝓤 H A) a (va ∷ []) a-is $ fjoin ! $ move ! (1 ∷ 2 ∷ []) $ feqI ! (List Val) (vptr b o ∷ []) (vptr b o ∷ []) refl $ fjoin3 ! $ fjoin ! $
+      qed W (lent-record 𝓤 D.the-row κ q b o γ h) ∵ nothing ! $ owned ! R.the-row (Is R.the-row) (EL.makes R.the-type R′.the-plain 𝓤 H A) a (va ∷ []) a-is $ fjoin ! $ move ! (1 ∷ 2 ∷ []) $ feqI ! (List Val) (vptr b o ∷ []) (vptr b o ∷ []) refl $ fjoin3 ! $ fjoin ! $
       nothing ! $ move ! (2 ∷ 0 ∷ []) $ join ! $ join ! $ frame ! $ done !

@@ -1,10 +1,5 @@
-mod Field
 mod Kept
 mod Record
-mod Call
 mod Callees
-mod Branch
 mod Handed
 mod Lent
-mod Entered
-mod Walk

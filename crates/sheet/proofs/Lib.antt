@@ -19,6 +19,5 @@ pub mod Edges
 mod DefaultBytes
 pub mod Steps
 pub mod CursorGoes
-pub mod Locals
-pub mod Gives
 pub mod Apart
+mod Stepped

@@ -1,3 +1,2 @@
-mod Walk
 mod Lent
 mod Got

@@ -6,17 +6,18 @@ use Rattle.figures.proofs.Calibration.Laws as F′
 use Rattle.in_force.specs.InForce.{offered, accepted, copyFits, applied}
 use Rattle.converter.specs.declared.Device.{Device}
 use Rattle.converter.proofs.Device as D
-use Rattle.board.proofs.Walk.{some, _≡_, refl, sym, ℕ, [], _∷_, List, ℤ, URA, named, Val, vptr, SProp, ent, id⊢, emp, via, fst∗, sep, GName, Lft, Share, ftrue, flft, fobs, fbor, Memory, Routine, Heap, Calls, Loops, WpFn, Atoms, Fun, givenOf, Given, ‵, _⊛_, _$_, _∵_, !, qed}
-use Rattle.board.proofs.Walk.{by, move, keep, drop, split, join, fsplit, fsplit3, fjoin, fjoin3, feqI, suffices, frame, done, look, init, stop, hop, fld}
-use Rattle.board.proofs.Walk.{from, load, of-opd, no-more, assigns, first, returns, returns-within, enter, alloc1, alloc0, params1, pass1, pass0, Body, FmC, owns, Is, mem}
-use Rattle.board.proofs.Walk.{RefT, MutRef, ptr-vals, mut-tells, plain, owned, nothing, onEntry, says, Stays, stay-ref, walkOf, AllGo, goes-ref, Walks, ends-at, walked, bool, bool-makes, vbool, true-lit, false-lit}
-use Rattle.board.proofs.Call.{Callee, AllKnown, calls-plain, local}
+use Rattle.walks.proofs.Walk.{some, _≡_, refl, sym, ℕ, [], _∷_, List, ℤ, URA, named, Val, vptr, SProp, ent, id⊢, emp, via, fst∗, sep, GName, Lft, Share, ftrue, flft, fobs, fbor, Memory, Routine, Heap, Calls, Loops, WpFn, Atoms, Fun, givenOf, Given, ‵, _⊛_, _$_, _∵_, !, qed}
+use Rattle.walks.proofs.Walk.{by, move, keep, drop, split, join, fsplit, fsplit3, fjoin, fjoin3, feqI, suffices, frame, done, look, init, stop, hop, fld}
+use Rattle.walks.proofs.Walk.{from, load, of-opd, no-more, assigns, first, returns, returns-within, enter, alloc1, alloc0, params1, pass1, pass0, Body, FmC, owns, Is, mem}
+use Rattle.walks.proofs.Walk.{RefT, MutRef, ptr-vals, mut-tells, plain, owned, nothing, onEntry, says, Stays, stay-ref, walkOf, AllGo, goes-ref, Walks, ends-at, walked, bool, bool-makes, vbool, true-lit, false-lit}
+use Rattle.walks.proofs.Call.{Callee, AllKnown, calls-plain, local}
 use Rattle.board.proofs.Callees.{offer, is-accepted}
-use Rattle.board.proofs.Branch.{branches-on, skips-to}
-use Rattle.board.proofs.Entered.{walk-entered}
-use Rattle.sheet.proofs.Locals.{frees-all}
-use Rattle.board.proofs.Kept.{mach-figures, number, refigure, refigured, sz-is, copy-is}
-use Rattle.board.proofs.Record.{opens-record, closes-record, setup-at, figures-at, sz-in, copy-in, copies, stores-figures}
+use Rattle.walks.proofs.Branch.{branches-on, skips-to}
+use Rattle.walks.proofs.Entered.{walk-entered}
+use Rattle.walks.proofs.Locals.{frees-all}
+use Rattle.board.proofs.Kept.{device, mach-figures, number, refigure, refigured, sz-is, copy-is}
+use Rattle.walks.proofs.Record.{opens-record, closes-record, copies}
+use Rattle.board.proofs.Record.{setup-at, figures-at, sz-in, copy-in, stores-figures}
 use Rattle.board.proofs.apply.Key.{name as #board·apply}
 use Rattle.board.proofs.apply as f
 use Rattle.board.proofs.apply.Statement as stated
@@ -66,17 +67,17 @@ module _ {M : Type 1} (𝓤 : URA M) (H : Heap 𝓤) (A : Atoms 𝓤) (W : Given
         alloc1 ! (λ l₀. alloc1 ! (λ l₁. alloc1 ! {τ = F′.mir} (λ l₂. alloc1 ! (λ l₃. alloc1 ! {τ = F′.mir} (λ l₄. alloc1 ! (λ l₅. alloc0 ! $ params1 ! $
         pass1 ! (init ! 8 refl (tt, tt)) $ pass0 ! $
         move ! (13 ∷ []) $ fsplit ! $ fsplit3 ! $ drop ! $ move ! (2 ∷ []) $ drop ! $ move ! (14 ∷ []) $ split ! $ move ! (2 ∷ 3 ∷ 0 ∷ []) $
-        opens-record ! tt h (λ was.
+        opens-record device ! tt h (λ was.
         -- [the record's cell; the open borrow; obs; auth; true; _5; …; _1; …; room for _0; …]
         copies ! 0 refl (sz-in h ! was) (look ! 13 refl) (init ! 9 refl) $ copies ! 0 refl (copy-in h ! was) (look ! 13 refl) (init ! 7 refl) $
         calls-plain ! fm offer (known-of .0) (tt, tt, tt, (sz, (h .setup .copy, tt)), (number sz ∷ [], (mach-figures (h .setup .copy) ∷ [], tt))) tt (id⊢ 𝓤 _) (sz-is h was, (copy-is h was, tt)) (id⊢ 𝓤 _) (λ c. c ≡ offered sz (h .setup .copy)) (λ c e. id⊢ 𝓤 _)
         (local ! 10 refl (local ! 8 refl (no-more !))) 11 refl refl (λ vc c is c-is.
         calls-plain ! fm is-accepted (known-of .1 .0) (tt, tt, tt, (c, tt), (vc ∷ [], tt)) tt (id⊢ 𝓤 _) (c-is, tt) (id⊢ 𝓤 _) (λ d. d ≡ accepted c) (λ d e. id⊢ 𝓤 _) (local ! 12 refl (no-more !)) 5 refl refl (λ vd d fits d-is. first ! $ branches-on ! (look ! 5 refl) d-is fits
         (λ fits. assigns ! (of-opd ! (load ! (from ! (stop !)) (look ! 11 refl))) (from ! (hop ! (look ! 13 refl) (fld ! setup-at (fld ! figures-at (stop !))))) (stores-figures ! 0 h refl was c c-is) $
-        assigns ! (of-opd ! (true-lit !)) (from ! (stop !)) (init ! 15 refl (tt, tt)) $ closes-record ! tt (refigure h c) (refigured h was c c-is) $
+        assigns ! (of-opd ! (true-lit !)) (from ! (stop !)) (init ! 15 refl (tt, tt)) $ closes-record device ! tt (refigure h c) (refigured h was c c-is) $
         returns-within ! Post refl (look ! 14 refl) $ frees-all ! 4 (some _ ∷ some _ ∷ some _ ∷ some _ ∷ some _ ∷ some _ ∷ []) refl $
         keep ! (0 ∷ 1 ∷ 2 ∷ []) $ by ! (exits true (refigure h c) (takes is fits)))
-        (λ unfit. skips-to ! t-6 Post $ assigns ! (of-opd ! (false-lit !)) (from ! (stop !)) (init ! 15 refl (tt, tt)) $ closes-record ! tt h was $
+        (λ unfit. skips-to ! t-6 Post $ assigns ! (of-opd ! (false-lit !)) (from ! (stop !)) (init ! 15 refl (tt, tt)) $ closes-record device ! tt h was $
         returns ! (look ! 14 refl) $ frees-all ! 4 (some _ ∷ some _ ∷ some _ ∷ some _ ∷ some _ ∷ some _ ∷ []) refl $
         keep ! (0 ∷ 1 ∷ 2 ∷ []) $ by ! (exits false h (leaves is unfit))))))))))))
 

@@ -21,18 +21,20 @@ use Rattle.converter.proofs.Entries.{read-unobeyed, serves}
 use Rattle.converter.proofs.Device as D
 use Rattle.converter.proofs.bus.Answered as B
 use Rattle.converter.proofs.bus.Answered.Laws as B′
-use Rattle.board.proofs.Walk.{none, some, _≡_, refl, sym, ℕ, [], _∷_, List, length, URA, named, Val, vptr, SProp, ent, id⊢, GName, Lft, Share, ftrue, flft, fres, Memory, Routine, Heap, Calls, Loops, WpFn, Atoms, Fun, givenOf, Given, Item, group, ‵, _⊛_, ⋆, _$_, _∵_, !, qed, by, move}
-use Rattle.board.proofs.Walk.{keep, drop, use1, split, join, fsplit, fsplit3, fjoin, feqL, suffices, frame, done, look, init, stop, hop, fld, from, load, addr, of-opd, and-then, no-more, assigns, first, returns, returns-within, enter, alloc1, alloc0, params1, pass1, pass0, agg, whole}
-use Rattle.board.proofs.Walk.{sub, look-in, FmC, owns, Is, mem, u8, RefT, MutRef, ptr-vals, mut-tells, slice-vals, MutSlice, ShrSlice, Room, finally, mut-slice-tells, shr-slice-tells, shr-slice-copy, plain, shrSliceOf, owned, nothing, onEntry, gave-ref, goes-gave-ref, says, needs, Stays}
-use Rattle.board.proofs.Walk.{stay-dropped, gave-slice, walkOf, AllGo, goes-dropped, goes-gave-slice, Walks, ends-at, walked, yes}
-use Rattle.board.proofs.Call.{Callee, AllKnown, calls-out, calls-plain, local}
+use Rattle.walks.proofs.Walk.{none, some, _≡_, refl, sym, ℕ, [], _∷_, List, length, URA, named, Val, vptr, SProp, ent, id⊢, GName, Lft, Share, ftrue, flft, fres, Memory, Routine, Heap, Calls, Loops, WpFn, Atoms, Fun, givenOf, Given, Item, group, ‵, _⊛_, ⋆, _$_, _∵_, !, qed, by, move}
+use Rattle.walks.proofs.Walk.{keep, drop, use1, split, join, fsplit, fsplit3, fjoin, feqL, suffices, frame, done, look, init, stop, hop, fld, from, load, addr, of-opd, and-then, no-more, assigns, first, returns, returns-within, enter, alloc1, alloc0, params1, pass1, pass0, agg, whole}
+use Rattle.walks.proofs.Walk.{sub, look-in, FmC, owns, Is, mem, u8, RefT, MutRef, ptr-vals, mut-tells, slice-vals, MutSlice, ShrSlice, Room, finally, mut-slice-tells, shr-slice-tells, shr-slice-copy, plain, shrSliceOf, owned, nothing, onEntry, gave-ref, goes-gave-ref, says, needs, Stays}
+use Rattle.walks.proofs.Walk.{stay-dropped, gave-slice, walkOf, AllGo, goes-dropped, goes-gave-slice, Walks, ends-at, walked, yes}
+use Rattle.walks.proofs.Call.{Callee, AllKnown, calls-out, calls-plain, local}
 use Rattle.board.proofs.Callees.{is-read}
-use Rattle.board.proofs.Lent.{slice, bytes, judge, to-judge, judge-asks, answer, to-answer, answer-asks, acknowledge, to-acknowledge, acknowledge-asks, refuse, to-refuse, refuse-asks, obey, to-obey, obey-asks}
-use Rattle.board.proofs.Branch.{branches-on, skips-to}
-use Rattle.board.proofs.Entered.{walk-entered}
-use Rattle.sheet.proofs.Locals.{frees-all}
-use Rattle.board.proofs.Kept.{station-fits}
-use Rattle.board.proofs.Record.{opens-record, closes-record, gives-record, station-in, setup-in, state-in, copies}
+use Rattle.walks.proofs.Lent.{slice, bytes}
+use Rattle.board.proofs.Lent.{judge, to-judge, judge-asks, answer, to-answer, answer-asks, acknowledge, to-acknowledge, acknowledge-asks, refuse, to-refuse, refuse-asks, obey, to-obey, obey-asks}
+use Rattle.walks.proofs.Branch.{branches-on, skips-to}
+use Rattle.walks.proofs.Entered.{walk-entered}
+use Rattle.walks.proofs.Locals.{frees-all}
+use Rattle.board.proofs.Kept.{device, station-fits}
+use Rattle.walks.proofs.Record.{opens-record, closes-record, gives-record, copies}
+use Rattle.board.proofs.Record.{station-in, setup-in, state-in}
 use Rattle.board.proofs.converter_frame.Key.{name as #board·converter-frame}
 use Rattle.board.proofs.converter_frame as f
 use Rattle.board.proofs.converter_frame.Statement as stated
@@ -78,7 +80,7 @@ module _ {M : Type 1} (𝓤 : URA M) (H : Heap 𝓤) (A : Atoms 𝓤) (W : Given
         pass1 ! (init ! 32 refl (tt, tt)) $ pass1 ! (init ! 30 refl (tt, (tt, (record { fits = room-f .0 }, tt)))) $ pass1 ! (init ! 28 refl (tt, (tt, (record { fits = room-r .0 }, tt)))) $ pass0 ! $
         move ! (37 ∷ []) $ fsplit ! $ move ! (1 ∷ []) $ fsplit ! $ move ! (1 ∷ []) $ fsplit ! $ move ! (3 ∷ []) $ fsplit3 ! $ drop ! $ move ! (41 ∷ []) $ split ! $ move ! (2 ∷ 3 ∷ 0 ∷ []) $
         -- [obs; the borrow; its token; the other tokens; the reply; true; the frame; _17; …; room for _0; …]
-        opens-record ! tt h (λ was.
+        opens-record device ! tt h (λ was.
         -- [the record's cell; the open borrow; obs; auth; the other tokens; the reply; true; the frame; _17; …]
         assigns ! (of-opd ! (load ! (from ! (fld ! refl (stop !))) (look-in ! 36 (sub ! 1 refl (whole !))))) (from ! (stop !)) (init ! 32 refl (tt, record { fits = room-r .0 })) $
         copies ! 0 refl (station-in h ! was) (look ! 40 refl) (init ! 30 refl) $ move ! (4 ∷ []) $ split ! $ move ! (8 ∷ []) $ use1 W (bytes 𝓤 κ₁ xf ⊛ bytes 𝓤 κ₁ xf) (shr-slice-copy 𝓤 H A W (named 0) κ₁ u8 .twice xf (slice xf ∷ [])) $ split ! $ move ! (2 ∷ 0 ∷ []) $ join ! $
@@ -96,11 +98,11 @@ module _ {M : Type 1} (𝓤 : URA M) (H : Heap 𝓤) (A : Atoms 𝓤) (W : Given
         -- of the last values only the reply's says anything: its list, and that it is as long as the one lent
         fsplit ! $ drop ! $ fsplit ! $ drop ! $ fsplit ! $ drop ! $ fsplit ! $ drop ! $ fsplit ! $ fsplit ! $ move ! (1 ∷ []) $ feqL ! (λ l. move ! (2 ∷ []) $
         -- [the other tokens; the last list; true; the record's cell; the open borrow; obs; auth; true; _17; …]
-        move ! (3 ∷ 4 ∷ 5 ∷ 6 ∷ []) $ gives-record ! tt h was $
+        move ! (3 ∷ 4 ∷ 5 ∷ 6 ∷ []) $ gives-record device ! tt h was $
         -- [the record's last value; its token; the other tokens; the last list; true; true; _17; …]
         returns-within ! Post refl (look ! 40 refl) $ frees-all ! 6 (some _ ∷ some _ ∷ some _ ∷ some _ ∷ some _ ∷ some _ ∷ some _ ∷ some _ ∷ some _ ∷ some _ ∷ some _ ∷ some _ ∷ []) refl $
         keep ! (0 ∷ 1 ∷ 2 ∷ 3 ∷ []) $ by ! (exits r w h (zs .1 .1 .1 .1 .0) r-is (serves reached (xf .now) (xr .now) (zs .1 .1 .1 .1 .0) asked refl e (sym (read-unobeyed h a read))) l))))
-        (λ no-read. skips-to ! t-6 Post $ assigns ! (addr ! (from ! (hop ! (look ! 41 refl) (stop !)))) (from ! (stop !)) (init ! 17 refl (tt, tt)) $ move ! (3 ∷ 4 ∷ 5 ∷ 6 ∷ []) $ closes-record ! tt h was $ group ! 3 $
+        (λ no-read. skips-to ! t-6 Post $ assigns ! (addr ! (from ! (hop ! (look ! 41 refl) (stop !)))) (from ! (stop !)) (init ! 17 refl (tt, tt)) $ move ! (3 ∷ 4 ∷ 5 ∷ 6 ∷ []) $ closes-record device ! tt h was $ group ! 3 $
         -- [what `obey` asks; the frame's token; the frame; the reply's token; the reply; true; _17; …]
         calls-out ! fm obey (known-of .1 .1 .1 .0) (to-obey 𝓤 H A κ q b o γ h a va) tt (obey-asks 𝓤 H A W at-mem run κ q b o γ h a va a-is) (λ d ds. (d ≡ obeys (h .state) (h .setup) a) × (ds .0 ≡ obeyed h a)) (λ d ds. id⊢ 𝓤 _)
         (local ! 14 refl (local ! 32 refl (no-more !))) 15 refl refl (λ vd d ds told d-is. fsplit ! $ move ! (1 ∷ []) $ drop ! $

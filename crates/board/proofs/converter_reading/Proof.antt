@@ -19,17 +19,18 @@ use Rattle.converter.specs.declared.Device.{Device}
 use Rattle.converter.specs.declared.Outcome.{Outcome}
 use Rattle.converter.proofs.Entries.{refuses, filters, adjusts, corrects, scales, joins}
 use Rattle.converter.proofs.Device as D
-use Rattle.board.proofs.Walk.{none, some, _≡_, refl, ℕ, _<_, _^_, [], _∷_, List, lit<, ℤ, URA, named, w8, w64, Val, vint, vptr, ofZ, SProp, ent, sep, emp, id⊢, GName, Lft, Share, ftrue, flft, fobs, fbor, Memory, Routine, Heap, Calls, Loops, WpFn, Atoms, Fun, factI, givenOf, Given, ‵, _⊛_}
-use Rattle.board.proofs.Walk.{_$_, _∵_, !, qed, by, move, keep, drop, split, join, fsplit, fsplit3, fjoin, fjoin3, feqI, suffices, frame, done, look, init, stop, hop, fld, from, load, lit, of-opd, no-more, assigns, first, returns, returns-within, enter, alloc1, alloc0, params1, pass1}
-use Rattle.board.proofs.Walk.{pass0, store, Body, FmC, owns, Is, mem, uint-vals, uint-tells, uint-makes, sint-vals, sint-tells, sint-makes, sint-lawful, u8, i64, RefT, MutRef, ptr-vals, mut-tells, plain, owned, nothing, onEntry, says, needs, Stays, stay-ref, stay-none, walkOf, AllGo}
-use Rattle.board.proofs.Walk.{goes-none, goes-ref, Walks, ends-at, walked, yes}
-use Rattle.board.proofs.Call.{Callee, AllKnown, calls-plain, local}
+use Rattle.walks.proofs.Walk.{none, some, _≡_, refl, ℕ, _<_, _^_, [], _∷_, List, lit<, ℤ, URA, named, w8, w64, Val, vint, vptr, ofZ, SProp, ent, sep, emp, id⊢, GName, Lft, Share, ftrue, flft, fobs, fbor, Memory, Routine, Heap, Calls, Loops, WpFn, Atoms, Fun, factI, givenOf, Given, ‵, _⊛_}
+use Rattle.walks.proofs.Walk.{_$_, _∵_, !, qed, by, move, keep, drop, split, join, fsplit, fsplit3, fjoin, fjoin3, feqI, suffices, frame, done, look, init, stop, hop, fld, from, load, lit, of-opd, no-more, assigns, first, returns, returns-within, enter, alloc1, alloc0, params1, pass1}
+use Rattle.walks.proofs.Walk.{pass0, store, Body, FmC, owns, Is, mem, uint-vals, uint-tells, uint-makes, sint-vals, sint-tells, sint-makes, sint-lawful, u8, i64, RefT, MutRef, ptr-vals, mut-tells, plain, owned, nothing, onEntry, says, needs, Stays, stay-ref, stay-none, walkOf, AllGo}
+use Rattle.walks.proofs.Walk.{goes-none, goes-ref, Walks, ends-at, walked, yes}
+use Rattle.walks.proofs.Call.{Callee, AllKnown, calls-plain, local}
 use Rattle.board.proofs.Callees.{bad-reading, held-after, input-at, cell-values, values-from, take}
-use Rattle.board.proofs.Branch.{branches-on, skips-to}
-use Rattle.board.proofs.Entered.{walk-entered}
-use Rattle.sheet.proofs.Locals.{frees-all}
-use Rattle.board.proofs.Kept.{number, mach-state, mach-cell, mach-temperature, mach-linearity, mach-system, mach-filter, mach-readings, restate, restated, five-is, readings-is, state-is}
-use Rattle.board.proofs.Record.{opens-record, closes-record, state-at, filter-in, readings-in, temperature-in, cell-in, linearity-in, system-in, state-in, copies, stores-state}
+use Rattle.walks.proofs.Branch.{branches-on, skips-to}
+use Rattle.walks.proofs.Entered.{walk-entered}
+use Rattle.walks.proofs.Locals.{frees-all}
+use Rattle.board.proofs.Kept.{device, number, mach-state, mach-cell, mach-temperature, mach-linearity, mach-system, mach-filter, mach-readings, restate, restated, five-is, readings-is, state-is}
+use Rattle.walks.proofs.Record.{opens-record, closes-record, copies}
+use Rattle.board.proofs.Record.{state-at, filter-in, readings-in, temperature-in, cell-in, linearity-in, system-in, state-in, stores-state}
 use Rattle.board.proofs.converter_reading.Key.{name as #board·converter-reading}
 use Rattle.board.proofs.converter_reading as f
 use Rattle.board.proofs.converter_reading.Statement as stated
@@ -78,7 +79,7 @@ module _ {M : Type 1} (𝓤 : URA M) (H : Heap 𝓤) (A : Atoms 𝓤) (W : Given
         (λ held. assigns ! (of-opd ! (lit ! tt)) (from ! (stop !)) (init ! 38 refl (tt, record { fits = lit< tt })) $
         returns-within ! Post refl (look ! 38 refl) $ frees-all ! 4 (some _ ∷ some _ ∷ some _ ∷ some _ ∷ some _ ∷ none ∷ none ∷ none ∷ none ∷ some _ ∷ []) refl $
         keep ! (0 ∷ 1 ∷ 2 ∷ []) $ by ! (exits (record { number = 9; device = h }) (lit< tt) (refuses reached z t n held)))
-        (λ good. skips-to ! t-3 Post $ opens-record ! tt h (λ was.
+        (λ good. skips-to ! t-3 Post $ opens-record device ! tt h (λ was.
         -- [the record's cell; the open borrow; obs; auth; true; _17; …]
         copies ! 0 refl (filter-in h ! was) (look ! 37 refl) (init ! 19 refl) $ copies ! 0 refl (readings-in h ! was) (look ! 37 refl) (init ! 17 refl) $
         calls-plain ! fm held-after (known-of .1 .0) (tt, tt, tt, (h .setup .figures .filter, (h .state .readings, (z, tt))), (mach-filter (h .setup .figures .filter) ∷ [], (mach-readings (h .state .readings) ∷ [], (number z ∷ [], tt)))) tt (id⊢ 𝓤 _)
@@ -102,7 +103,7 @@ module _ {M : Type 1} (𝓤 : URA M) (H : Heap 𝓤) (A : Atoms 𝓤) (W : Given
         (state-is h was, (k-fits, (t-is, (w-fits, tt)))) (id⊢ 𝓤 _) (λ r. r ≡ takenWith (h .state) k t w) (λ r e. id⊢ 𝓤 _)
         (local ! 6 refl (local ! 30 refl (local ! 34 refl (local ! 24 refl (no-more !))))) 7 refl refl (λ vr r r-is state.
         assigns ! (of-opd ! (load ! (from ! (stop !)) (look ! 7 refl))) (from ! (hop ! (look ! 37 refl) (fld ! state-at (stop !)))) (stores-state ! 0 h refl was r state) $
-        assigns ! (of-opd ! (lit ! tt)) (from ! (stop !)) (init ! 39 refl (tt, record { fits = lit< tt })) $ closes-record ! tt (restate h r) (restated h was r state) $
+        assigns ! (of-opd ! (lit ! tt)) (from ! (stop !)) (init ! 39 refl (tt, record { fits = lit< tt })) $ closes-record device ! tt (restate h r) (restated h was r state) $
         returns ! (look ! 38 refl) $ frees-all ! 4 (some _ ∷ some _ ∷ some _ ∷ some _ ∷ some _ ∷ some _ ∷ some _ ∷ some _ ∷ some _ ∷ some _ ∷ some _ ∷ some _ ∷ some _ ∷ some _ ∷ some _ ∷ some _ ∷ some _ ∷ some _ ∷ []) refl $
         keep ! (0 ∷ 1 ∷ 2 ∷ []) $ by ! (exits (record { number = 0; device = restate h r }) (lit< tt) (joins reached z t n good k-is i-is c-is w-is r-is))))))))))))))))))))))))))))
 

@@ -9,13 +9,13 @@ use Rattle.converter.specs.Reached.{Reached}
 use Rattle.converter.specs.declared.Device.{Device}
 use Rattle.converter.proofs.Device as D
 use Rattle.converter.proofs.Device.Laws as D′
-use Rattle.board.proofs.Walk.{some, _≡_, refl, ℕ, [], _∷_, List, URA, named, Val, vptr, emp, SProp, ent, sep, id⊢, GName, Lft, Share, ftrue, flft, fres, fshr-bor, Memory, Routine, Heap, Calls, Loops, WpFn, Atoms, Fun, factI, givenOf, Given, ‵, _⊛_, _$_, _∵_, !, qed, by, move, keep, drop}
-use Rattle.board.proofs.Walk.{split, join, fsplit, fsplit3, fjoin, fjoin3, feqI, suffices, frame, done, look, look-raw, init, stop, hop, from, load, of-opd, no-more, assigns, returns, enter, alloc1, alloc0, params1, pass1, pass0, FmC, owns, Is, shows, partAt, RefT, ShrRef, ptr-vals}
-use Rattle.board.proofs.Walk.{shr-tells, plain, looks, shuts, owned, peeks, nothing, spelt, onEntry, says, needs, Stays, stay-none-ref, walkOf, AllGo, goes-none-ref, Walks, ends-at, walked, yes}
-use Rattle.board.proofs.Call.{AllKnown, calls-plain, local}
+use Rattle.walks.proofs.Walk.{some, _≡_, refl, ℕ, [], _∷_, List, URA, named, Val, vptr, emp, SProp, ent, sep, id⊢, GName, Lft, Share, ftrue, flft, fres, fshr-bor, Memory, Routine, Heap, Calls, Loops, WpFn, Atoms, Fun, factI, givenOf, Given, ‵, _⊛_, _$_, _∵_, !, qed, by, move, keep, drop}
+use Rattle.walks.proofs.Walk.{split, join, fsplit, fsplit3, fjoin, fjoin3, feqI, suffices, frame, done, look, look-raw, init, stop, hop, from, load, of-opd, no-more, assigns, returns, enter, alloc1, alloc0, params1, pass1, pass0, FmC, owns, Is, shows, partAt, RefT, ShrRef, ptr-vals}
+use Rattle.walks.proofs.Walk.{shr-tells, plain, looks, shuts, owned, peeks, nothing, spelt, onEntry, says, needs, Stays, stay-none-ref, walkOf, AllGo, goes-none-ref, Walks, ends-at, walked, yes}
+use Rattle.walks.proofs.Call.{AllKnown, calls-plain, local}
 use Rattle.board.proofs.Callees.{report}
-use Rattle.board.proofs.Entered.{walk-entered}
-use Rattle.sheet.proofs.Locals.{frees-all}
+use Rattle.walks.proofs.Entered.{walk-entered}
+use Rattle.walks.proofs.Locals.{frees-all}
 use Rattle.board.proofs.Kept.{mach, tells, typed}
 use Rattle.board.proofs.converter_report.Key.{name as #board·converter-report}
 use Rattle.board.proofs.converter_report as f

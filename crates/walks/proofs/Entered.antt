@@ -11,7 +11,7 @@ use denote.Triple.Clauses.{Ended, Clauses, closing}
 use denote.Triple.Spec.{Meets, tripleOf}
 use denote.Triple.Table.{entered}
 use denote.Triple.Walked.{Stays, AllGo, Walks, walk-meets}
-use Rattle.board.proofs.Call.{Callee, AllKnown, Mean, all-known}
+use Rattle.walks.proofs.Call.{Callee, AllKnown, Mean, all-known}
 
 module _ {M : Type 1} (𝓤 : URA M) (H : Heap 𝓤) (𝓜 : Model 𝓤 H) (𝓖 : GhostRules 𝓤 H) (𝓡 : Running 𝓤 H 𝓜) where
   pub walk-entered : (γ : Env) (k : Name) (e : Fn) → Closed 𝓤 H (tables 𝓤 H 𝓜 𝓡 γ .C) (tables 𝓤 H 𝓜 𝓡 γ .Λ) k e → (gs : List Callee) → Mean γ gs

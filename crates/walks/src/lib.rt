@@ -1,0 +1,1 @@
+// Walks over MIR, in proofs (see proofs/Lib.antt): no code.
