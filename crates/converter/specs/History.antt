@@ -10,7 +10,6 @@ use lib.Signed.{_≤ℤ_}
 use Rattle.compensation.specs.Stat.{Raised}
 use Rattle.compensation.specs.Faithful.{Faithful}
 use Rattle.binary32.specs.Sent.{stepFloat, wholeFloat}
-use Rattle.register.specs.Number.{STAT, SOUT, SYS, TEMP, SRAW, CELL, FLAG, CRAW, ELEC, SZ, SYSN, PEAK, TROF, APPLY, RST, SNAP, PEAKRESET}
 use Rattle.register.specs.Ends.{notListed, kindSaid}
 use Rattle.panel.specs.Figure.{isFigure, figureFloat}
 use Rattle.state.specs.Report.{noReport, reported}
@@ -66,30 +65,32 @@ pub record Right (r : Readings) (entries : List Entry) (k : Kept) : Type 0 where
   pub peak : Largest (r .peak) (sysSince entries)
   pub trof : Smallest (r .trof) (sysSince entries)
 
--- ---- "An accepted read or report of such a value gives its float."
+-- ---- "An accepted read or report of such a value gives its float.": by the master's own bytes, and the paper's numbers alone, "STAT 6,
+-- SOUT 9 and SYS 10 (equal), TEMP 11, SRAW 12, CELL 13, FLAG 14, CRAW 15, ELEC 16, SZ 22, SYSN 23, PEAK 24, TROF 25, RST 100, SNAP 103,
+-- peak reset 104", "our own register 99" (Change 1)
 
 -- 11: "SYSN read with none taken"
 abbrev pub SysnShown : Device → Option ℤ → Type 0
-SysnShown d none = Withholds d SYSN 11
-SysnShown d (some sysn) = Sends d SYSN (stepFloat sysn)
+SysnShown d none = Withholds d 23 11
+SysnShown d (some sysn) = Sends d 23 (stepFloat sysn)
 
 -- at all times: FLAG, the SZ in force, SYSN where one was taken, the copy that the log keeps, and 0.0 for the actions
 pub record AlwaysShown (d : Device) (l : Log) (snapshot : Option ℤ) : Type 0 where
-  pub flag : Sends d FLAG (wholeFloat (d .state .flag))
-  pub sz : Sends d SZ (stepFloat (l .setup .figures .system .sz))
+  pub flag : Sends d 14 (wholeFloat (d .state .flag))
+  pub sz : Sends d 22 (stepFloat (l .setup .figures .system .sz))
   pub sysn : SysnShown d snapshot
   -- "Reads show that copy at all times"
   pub copy : (n : ℕ) → isFigure n ≡ true → Sends d n (figureFloat (l .setup .copy) n)
-  pub apply : Sends d APPLY (wholeFloat 0)
-  pub rst : Sends d RST (wholeFloat 0)
-  pub snap : Sends d SNAP (wholeFloat 0)
-  pub peak-reset : Sends d PEAKRESET (wholeFloat 0)
+  pub apply : Sends d 99 (wholeFloat 0)
+  pub rst : Sends d 100 (wholeFloat 0)
+  pub snap : Sends d 103 (wholeFloat 0)
+  pub peak-reset : Sends d 104 (wholeFloat 0)
   -- 15: "not twice a listed register"
   pub unlisted : (n : ℕ) → kindSaid n ≡ notListed → Withholds d n 15
 
 -- 10: "a reading's value .., report, .. before the first reading since start or RST"
 abbrev pub ofReading : List ℕ
-ofReading = STAT ∷ SOUT ∷ SYS ∷ TEMP ∷ SRAW ∷ CELL ∷ CRAW ∷ ELEC ∷ PEAK ∷ TROF ∷ []
+ofReading = 6 ∷ 9 ∷ 10 ∷ 11 ∷ 12 ∷ 13 ∷ 15 ∷ 16 ∷ 24 ∷ 25 ∷ []
 
 pub record NoneShown (d : Device) : Type 0 where
   pub values : (n : ℕ) → List·Memᴰ n ofReading → Withholds d n 10
@@ -97,16 +98,16 @@ pub record NoneShown (d : Device) : Type 0 where
 
 -- once a reading is kept, and k is the last one
 pub record Shown (d : Device) (k : Kept) : Type 0 where
-  pub stat : Sends d STAT (wholeFloat (valued k .stat))
-  pub sout : Sends d SOUT (stepFloat (valued k .sys))
-  pub sys : Sends d SYS (stepFloat (valued k .sys))
-  pub temp : Sends d TEMP (stepFloat (k .temp))
-  pub sraw : Sends d SRAW (stepFloat (valued k .sraw))
-  pub cell : Sends d CELL (stepFloat (valued k .cell))
-  pub craw : Sends d CRAW (stepFloat (valued k .craw))
-  pub elec : Sends d ELEC (stepFloat (k .elec))
-  pub peak : Sends d PEAK (stepFloat (d .state .readings .peak))
-  pub trof : Sends d TROF (stepFloat (d .state .readings .trof))
+  pub stat : Sends d 6 (wholeFloat (valued k .stat))
+  pub sout : Sends d 9 (stepFloat (valued k .sys))
+  pub sys : Sends d 10 (stepFloat (valued k .sys))
+  pub temp : Sends d 11 (stepFloat (k .temp))
+  pub sraw : Sends d 12 (stepFloat (valued k .sraw))
+  pub cell : Sends d 13 (stepFloat (valued k .cell))
+  pub craw : Sends d 15 (stepFloat (valued k .craw))
+  pub elec : Sends d 16 (stepFloat (k .elec))
+  pub peak : Sends d 24 (stepFloat (d .state .readings .peak))
+  pub trof : Sends d 25 (stepFloat (d .state .readings .trof))
   pub report : reported (d .state .readings) ≡ record {
     number = 0;
     report = record { sys = stepFloat (valued k .sys); peak = stepFloat (d .state .readings .peak); trof = stepFloat (d .state .readings .trof); cell = stepFloat (valued k .cell) };

@@ -6,7 +6,6 @@ use mathlib.Core.Option.{Option, none, some}
 use Prim.Native.Nat.{ℕ}
 use lib.Dec.{eqb}
 use lib.IntN.{ℤ}
-use Rattle.register.specs.Number.{RST, SNAP}
 use Rattle.modbus.specs.Frame.{judged}
 use Rattle.modbus.specs.declared.frame.Frame.{Frame}
 use Rattle.modbus.specs.declared.frame.Frame.the-variants.{Refused, Read, Write, Act}
@@ -19,11 +18,12 @@ abbrev pub snapBy : Option Kept → Option ℤ → Option ℤ
 snapBy none sysn = sysn
 snapBy (some k) sysn = some (valued k .sys)
 
+-- "RST 100, SNAP 103"
 abbrev pub shotBy : Log → Option ℤ → Frame → Option ℤ
 shotBy l sysn (Refused n) = sysn
 shotBy l sysn (Read r) = sysn
 shotBy l sysn (Write r x) = sysn
-shotBy l sysn (Act r) = cond (eqb r RST) none (cond (eqb r SNAP) (snapBy (latest (l .readings)) sysn) sysn)
+shotBy l sysn (Act r) = cond (eqb r 100) none (cond (eqb r 103) (snapBy (latest (l .readings)) sysn) sysn)
 
 abbrev pub shot : Log → Option ℤ → Call → Option ℤ
 shot l sysn (reading elec temp integrity) = sysn

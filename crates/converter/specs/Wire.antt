@@ -8,7 +8,6 @@ use lib.Ieee.{Float, binary32, fits}
 use Rattle.binary32.specs.Received.{takes}
 use Rattle.binary32.specs.Wire.{sent}
 use Rattle.checksum.specs.Checksum.{framed}
-use Rattle.register.specs.Number.{APPLY, RST, SNAP, PEAKRESET}
 use Rattle.register.specs.Register.{rangeOf}
 use Rattle.register.specs.Ends.{notListed, onlyRead, valued, kindSaid}
 use Rattle.modbus.specs.Master.{asking, readRequest, writeRequest, Reaches}
@@ -53,21 +52,21 @@ pub record Rejects (d : Device) (r : ℕ) (x : Float) (n code : ℕ) : Type 0 wh
   pub broadcast : Answers d (writeRequest 0 r x) n []
   pub does : Leaves d r x d
 
--- every register: "Code .. 2 for 15 ..; 3 for 16, and 10 on a write"; 3 for 17 (Change 1)
+-- every register; "RST 100, SNAP 103, peak reset 104", "our own register 99" (Change 1). "Code .. 2 for 15 ..; 3 for 16, and 10 on a write"; 3 for 17 (Change 1)
 pub record WritesHeeded (d : Device) (x : Float) : Type 0 where
   pub taken : (r : ℕ) → kindSaid r ≡ valued → takes (rangeOf r) x ≡ true → Obeys d r x (Write r x)
   pub unfit : (r : ℕ) → kindSaid r ≡ valued → takes (rangeOf r) x ≡ false → Rejects d r x 16 3
   pub read-only : (r : ℕ) → kindSaid r ≡ onlyRead → Rejects d r x 16 3
   pub unlisted : (r : ℕ) → kindSaid r ≡ notListed → Rejects d r x 15 2
-  pub rst : Obeys d RST x (Act RST)
+  pub rst : Obeys d 100 x (Act 100)
   -- 10: "SNAP or peak reset before the first reading since start or RST"
-  pub snap : d .state .readings .any ≡ true → Obeys d SNAP x (Act SNAP)
-  pub no-snap : d .state .readings .any ≡ false → Rejects d SNAP x 10 3
-  pub peak-reset : d .state .readings .any ≡ true → Obeys d PEAKRESET x (Act PEAKRESET)
-  pub no-peak-reset : d .state .readings .any ≡ false → Rejects d PEAKRESET x 10 3
+  pub snap : d .state .readings .any ≡ true → Obeys d 103 x (Act 103)
+  pub no-snap : d .state .readings .any ≡ false → Rejects d 103 x 10 3
+  pub peak-reset : d .state .readings .any ≡ true → Obeys d 104 x (Act 104)
+  pub no-peak-reset : d .state .readings .any ≡ false → Rejects d 104 x 10 3
   -- 17: "unfit copy, for register 99"
-  pub apply : copyFits (d .setup) ≡ true → Obeys d APPLY x (Act APPLY)
-  pub no-apply : copyFits (d .setup) ≡ false → Rejects d APPLY x 17 3
+  pub apply : copyFits (d .setup) ≡ true → Obeys d 99 x (Act 99)
+  pub no-apply : copyFits (d .setup) ≡ false → Rejects d 99 x 17 3
 
 -- of every device that our calls gave, and every float that an f32 can be
 abbrev pub Writes : Type 0
