@@ -15,7 +15,7 @@ use Rattle.figures.specs.Acceptable.{FilterAcceptable}
 use Rattle.figures.specs.declared.Filter.{Filter}
 use Rattle.compensation.specs.Filter.{isZero, filtered}
 use Rattle.compensation.specs.Filtered.{Filtered, FilterStated}
-use Rattle.compensation.proofs.FilterCases.{at-first, no-steps, too-far, one-step}
+use Rattle.compensation.proofs.FilterCases.{at-first, no-steps, too-far}
 
 not-zero : {z : ℤ} → pos 0 <ℤ z → isZero z ≡ false
 not-zero {z = pos zero} h = absurd (h .lt)
@@ -53,8 +53,9 @@ module _ (f : Filter) (first : Bool) (held input : ℤ) where
           let d : 1 * natAbs (input -ℤ held) ≤ n = abs! (⟨ input ⟩ ⊝ ⟨ held ⟩) 1 n (omega (arith, le? ⟨ input ⟩ (⟨ held ⟩ ⊕ nat n) h)) (omega (arith, le? ⟨ held ⟩ (⟨ input ⟩ ⊕ nat n) k)) in
           le! (nat (natAbs (input -ℤ held))) (nat n) (omega arith)
 
-  stepped : first ≡ false → pos 0 <ℤ f .ffst → input ≤ℤ (held +ℤ f .fflv) → held ≤ℤ (input +ℤ f .fflv) → filtered f first held input ≡ held +ℤ roundDiv (input -ℤ held) (f .ffst)
-  stepped a s h k = one-step f first held input a (not-zero s) s (no-lt (neither h k))
+  stepped : first ≡ false → pos 0 <ℤ f .fflv → pos 0 <ℤ f .ffst → input ≤ℤ (held +ℤ f .fflv) → held ≤ℤ (input +ℤ f .fflv) → filtered f first held input ≡ held +ℤ roundDiv (input -ℤ held) (f .ffst)
+  unfolding filtered
+  stepped a l s h k = rw (a, not-zero l, not-zero s, no-lt (neither h k)) refl
 
   is : Filtered f first held input (filtered f first held input)
   is = record {
@@ -63,7 +64,7 @@ module _ (f : Filter) (first : Bool) (held input : ℤ) where
     at-first = at-first f first held input;
     far-above = λ h. too-far f first held input (above h);
     far-below = λ h. too-far f first held input (below h);
-    near = λ a l s h k. subst (Nearest (input -ℤ held) (f .ffst)) (sym (ap (λ (z : ℤ). z -ℤ held) (stepped a s h k) ∙ moved held (roundDiv (input -ℤ held) (f .ffst)))) (round-nearest (input -ℤ held) (f .ffst) s);
+    near = λ a l s h k. subst (Nearest (input -ℤ held) (f .ffst)) (sym (ap (λ (z : ℤ). z -ℤ held) (stepped a l s h k) ∙ moved held (roundDiv (input -ℤ held) (f .ffst)))) (round-nearest (input -ℤ held) (f .ffst) s);
   }
 
   -- an FFLV or FFST that is not 0 is above it
@@ -76,7 +77,7 @@ module _ (f : Filter) (first : Bool) (held input : ℤ) where
       on : first ≡ false → pos 0 <ℤ f .fflv → pos 0 <ℤ f .ffst → new ≡ filtered f first held input
       on a l s = ⊎-elim
           (λ h. ⊎-elim
-          (λ k. back new held _ (round-is (input -ℤ held) (f .ffst) (new -ℤ held) s .1 (p .near a l s h k)) ∙ sym (stepped a s h k))
+          (λ k. back new held _ (round-is (input -ℤ held) (f .ffst) (new -ℤ held) s .1 (p .near a l s h k)) ∙ sym (stepped a l s h k))
           (λ k. same (p .far-below k) (is .far-below k))
           (≤-or-> held (input +ℤ f .fflv)))
           (λ h. same (p .far-above h) (is .far-above h))
