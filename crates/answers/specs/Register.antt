@@ -64,11 +64,11 @@ unfoldable pub onCopy : Setup → Answer
 onCopy s = cond (copyFits s) Done (Refused 17)
 
 -- RST needs nothing, 99 a copy that fits, SNAP and peak reset a reading
-unfoldable pub answered : State → Setup → Frame → Answer
-answered s setup (frame.Refused n) = Refused n
-answered s setup (Read n) = registerAt s (setup .figures .system .sz) (setup .copy) n
-answered s setup (Write r x) = Done
-answered s setup (Act r) = cond (eqb r RST) Done (cond (eqb r APPLY) (onCopy setup) (onReading s))
+unfoldable pub answerOf : State → Setup → Frame → Answer
+answerOf s setup (frame.Refused n) = Refused n
+answerOf s setup (Read n) = registerAt s (setup .figures .system .sz) (setup .copy) n
+answerOf s setup (Write r x) = Done
+answerOf s setup (Act r) = cond (eqb r RST) Done (cond (eqb r APPLY) (onCopy setup) (onReading s))
 
 -- An answer's number: "An accepted call gives 0".
 abbrev pub numberOf : Answer → ℕ

@@ -3,7 +3,7 @@ ghost use mathlib.Core.Path.{_≡_};
 ghost use Rattle.panel.specs.Figure.{InRange};
 ghost use mathlib.Core.Bool.{true};
 ghost use Rattle.answers.specs.Parts.{isRead};
-ghost use Rattle.answers.specs.Register.{stepsAt, readingFloat, readingAt, panelAt, registerAt, answered};
+ghost use Rattle.answers.specs.Register.{stepsAt, readingFloat, readingAt, panelAt, registerAt, answerOf};
 ghost use Rattle.answers.specs.Within.{StateWithin};
 ghost use Rattle.state.specs.Within.{ReadingsWithin};
 
@@ -17,13 +17,13 @@ use modbus::frame::Frame;
 pub use parts::applies;
 pub use parts::changes_state;
 pub use parts::changes_zero;
-pub use parts::copy_after;
+pub use parts::copy_by;
 pub use parts::is_obeyed;
 pub use parts::is_read;
 pub use parts::obeys;
 pub use parts::refusal;
 pub use parts::restarts;
-pub use parts::zero_after;
+pub use parts::zero_by;
 use state::Readings;
 use state::State;
 
@@ -112,7 +112,7 @@ fn register_at(state: State, sz: i64, copy: Calibration, register: u32) -> Answe
 // A read is answered with the register.
 pub fn answer_to_read(state: State, setup: Setup, frame: Frame) -> Answer
     requires { ⌜ (isRead frame ≡ true) × StateWithin state (setup .figures .system .sz) (setup .copy) ⌝ }
-    ensures { λ a. ⌜ a ≡ answered state setup frame ⌝ }
+    ensures { λ a. ⌜ a ≡ answerOf state setup frame ⌝ }
 {
     match frame {
         Frame::Read(register) => {

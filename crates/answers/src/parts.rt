@@ -101,7 +101,7 @@ pub fn changes_state(frame: Frame) -> bool
 }
 
 // SZ after it.
-pub fn zero_after(sz: i64, frame: Frame) -> i64
+pub fn zero_by(sz: i64, frame: Frame) -> i64
     ensures { λ r. ⌜ r ≡ zeroBy sz frame ⌝ }
 {
     match frame {
@@ -116,7 +116,7 @@ pub fn zero_after(sz: i64, frame: Frame) -> i64
 }
 
 // The copy after a write.
-pub fn copy_after(copy: Calibration, frame: Frame) -> Calibration
+pub fn copy_by(copy: Calibration, frame: Frame) -> Calibration
     ensures { λ r. ⌜ r ≡ copyBy copy frame ⌝ }
 {
     match frame {

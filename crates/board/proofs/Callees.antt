@@ -35,15 +35,15 @@ use Rattle.converter.proofs.Device.Laws as D′
 use Rattle.answers.proofs.changes_state as changes-state-of
 use Rattle.answers.proofs.changes_state.Symbol as changes-state-def
 use Rattle.answers.proofs.changes_state.Met as changes-state-thm
-use Rattle.state.proofs.state_after as state-after-of
-use Rattle.state.proofs.state_after.Symbol as state-after-def
-use Rattle.state.proofs.state_after.Met as state-after-thm
+use Rattle.state.proofs.state_by as state-after-of
+use Rattle.state.proofs.state_by.Symbol as state-after-def
+use Rattle.state.proofs.state_by.Met as state-after-thm
 use Rattle.answers.proofs.changes_zero as changes-zero-of
 use Rattle.answers.proofs.changes_zero.Symbol as changes-zero-def
 use Rattle.answers.proofs.changes_zero.Met as changes-zero-thm
-use Rattle.answers.proofs.zero_after as zero-after-of
-use Rattle.answers.proofs.zero_after.Symbol as zero-after-def
-use Rattle.answers.proofs.zero_after.Met as zero-after-thm
+use Rattle.answers.proofs.zero_by as zero-after-of
+use Rattle.answers.proofs.zero_by.Symbol as zero-after-def
+use Rattle.answers.proofs.zero_by.Met as zero-after-thm
 use Rattle.answers.proofs.is_read as is-read-of
 use Rattle.answers.proofs.is_read.Symbol as is-read-def
 use Rattle.answers.proofs.is_read.Met as is-read-thm
@@ -80,9 +80,9 @@ use Rattle.answers.proofs.applies.Met as applies-thm
 use Rattle.answers.proofs.restarts as restarts-of
 use Rattle.answers.proofs.restarts.Symbol as restarts-def
 use Rattle.answers.proofs.restarts.Met as restarts-thm
-use Rattle.answers.proofs.copy_after as copy-after-of
-use Rattle.answers.proofs.copy_after.Symbol as copy-after-def
-use Rattle.answers.proofs.copy_after.Met as copy-after-thm
+use Rattle.answers.proofs.copy_by as copy-after-of
+use Rattle.answers.proofs.copy_by.Symbol as copy-after-def
+use Rattle.answers.proofs.copy_by.Met as copy-after-thm
 use Rattle.in_force.proofs.offer as offer-of
 use Rattle.in_force.proofs.offer.Symbol as offer-def
 use Rattle.in_force.proofs.offer.Met as offer-thm
@@ -100,8 +100,8 @@ changes-state = record {
   makes = λ 𝓤 H A W κs. (EL.makes R.the-type R′.the-plain 𝓤 H A, tt);
 }
 
-abbrev pub state-after : Plain
-state-after = record {
+abbrev pub state-by : Plain
+state-by = record {
   callee = record { name = state-after-def.name; routine = state-after-def.routine; ended = state-after-of.ended; clauses = state-after-of.clauses; met = state-after-thm.met; result = S′.mir; typed = λ 𝓤 H A W κs r v is. LL.lawful S.the-type S′.the-laws 𝓤 H A W .typed r _ is .0 };
   makes = λ 𝓤 H A W κs. (LL.makes S.the-type S′.the-plain 𝓤 H A, (EL.makes R.the-type R′.the-plain 𝓤 H A, tt));
 }
@@ -112,8 +112,8 @@ changes-zero = record {
   makes = λ 𝓤 H A W κs. (EL.makes R.the-type R′.the-plain 𝓤 H A, tt);
 }
 
-abbrev pub zero-after : Plain
-zero-after = record {
+abbrev pub zero-by : Plain
+zero-by = record {
   callee = record { name = zero-after-def.name; routine = zero-after-def.routine; ended = zero-after-of.ended; clauses = zero-after-of.clauses; met = zero-after-thm.met; result = tyInt w64; typed = λ 𝓤 H A W κs r v is. sint-lawful 𝓤 H A W w64 .typed r _ is .0 };
   makes = λ 𝓤 H A W κs. (sint-makes 𝓤 H A W w64, (EL.makes R.the-type R′.the-plain 𝓤 H A, tt));
 }
@@ -184,8 +184,8 @@ restarts = record {
   makes = λ 𝓤 H A W κs. (EL.makes R.the-type R′.the-plain 𝓤 H A, tt);
 }
 
-abbrev pub copy-after : Plain
-copy-after = record {
+abbrev pub copy-by : Plain
+copy-by = record {
   callee = record { name = copy-after-def.name; routine = copy-after-def.routine; ended = copy-after-of.ended; clauses = copy-after-of.clauses; met = copy-after-thm.met; result = F′.mir; typed = λ 𝓤 H A W κs r v is. LL.lawful F.the-type F′.the-laws 𝓤 H A W .typed r _ is .0 };
   makes = λ 𝓤 H A W κs. (LL.makes F.the-type F′.the-plain 𝓤 H A, (EL.makes R.the-type R′.the-plain 𝓤 H A, tt));
 }

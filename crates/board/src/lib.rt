@@ -2,7 +2,7 @@
 // the lent record apart, calls functions over its parts, by value, and stores only what the call can change. Contracts are those of
 // `converter`'s entries, read at entry and exit.
 ghost use mathlib.Core.Path.{_≡_};
-ghost use Rattle.state.specs.Report.{reported};
+ghost use Rattle.state.specs.Report.{reportOf};
 ghost use mathlib.Core.Bool.{false};
 ghost use Rattle.in_force.specs.InForce.{copyFits, applied};
 ghost use Rattle.answers.specs.Parts.{applies, obeys};
@@ -99,14 +99,14 @@ fn store(device: &mut Device, asked: Frame)
     ensures { λ _. ⌜ now (device .exit) ≡ obeyed (now (device .entry)) asked ⌝ }
 {
     if answers::changes_zero(asked) {
-        device.setup.figures.system.sz = answers::zero_after(device.setup.figures.system.sz, asked);
+        device.setup.figures.system.sz = answers::zero_by(device.setup.figures.system.sz, asked);
     } else if answers::restarts(asked) {
         device.setup.copy = panel::unused_zero(device.setup.figures);
         device.state = state::fresh();
     } else if answers::changes_state(asked) {
-        device.state = state::state_after(device.state, asked);
+        device.state = state::state_by(device.state, asked);
     } else {
-        device.setup.copy = answers::copy_after(device.setup.copy, asked);
+        device.setup.copy = answers::copy_by(device.setup.copy, asked);
     }
 }
 
@@ -114,7 +114,7 @@ fn store(device: &mut Device, asked: Frame)
 #[no_mangle]
 pub extern "C" fn converter_report(device: &Device) -> Reported
     requires { ⌜ Reached (now device) ⌝ }
-    ensures { λ r. ⌜ r ≡ reported (now (device .entry) .state .readings) ⌝ }
+    ensures { λ r. ⌜ r ≡ reportOf (now (device .entry) .state .readings) ⌝ }
 {
     Device::report(*device)
 }

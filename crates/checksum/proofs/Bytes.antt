@@ -7,7 +7,7 @@ use lib.Bits.{bitXor, xor-zero-r, xor-lt}
 use lib.ListN.{length, getD, take, drop, length-drop}
 use lib.Seq.{length-take-le, take-add, getD-drop}
 use Rattle.integers.specs.Bytes.{wordOf}
-use Rattle.checksum.specs.Checksum.{shifts, taken, checksumFrom, checksumOf}
+use Rattle.checksum.specs.Checksum.{shifts, withByte, checksumFrom, checksumOf}
 use Rattle.checksum.proofs.Shifts.{by-one, shifts-fit}
 
 abbrev pub Bytes : List ℕ → Type 0
@@ -24,16 +24,16 @@ unfolding shifts
 at-once [] bs c = sym (xor-zero-r c)
 at-once (b ∷ rest) bs c =
     let more : 8 + 8 * length rest ≡ 8 * suc (length rest) = omega arith in
-    at-once rest (bs .1) (taken c b) ∙ by-one c b (wordOf rest) (8 * length rest) (bs .0) ∙ ap (λ (k : ℕ). shifts k (bitXor c (b + wordOf rest * 256))) more
+    at-once rest (bs .1) (withByte c b) ∙ by-one c b (wordOf rest) (8 * length rest) (bs .0) ∙ ap (λ (k : ℕ). shifts k (bitXor c (b + wordOf rest * 256))) more
 
 pub checksum-fits : (l : List ℕ) → Bytes l → (c : ℕ) → c < 65536 → checksumFrom c l < 65536
-unfolding taken
+unfolding withByte
 checksum-fits [] bs c h = h
-checksum-fits (b ∷ rest) bs c h = checksum-fits rest (bs .1) (taken c b) (shifts-fit 8 (bitXor c b) (xor-lt 16 c b h (omega (arith, bs .0))))
+checksum-fits (b ∷ rest) bs c h = checksum-fits rest (bs .1) (withByte c b) (shifts-fit 8 (bitXor c b) (xor-lt 16 c b h (omega (arith, bs .0))))
 
 from-append : (l m : List ℕ) (c : ℕ) → checksumFrom c (l ++ m) ≡ checksumFrom (checksumFrom c l) m
 from-append [] m c = refl
-from-append (b ∷ rest) m c = from-append rest m (taken c b)
+from-append (b ∷ rest) m c = from-append rest m (withByte c b)
 
 -- ---- of a slice
 

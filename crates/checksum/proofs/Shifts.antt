@@ -7,7 +7,7 @@ use native.Mathlib.Nat.{add-comm, zero-add, suc-add, mul-one, div-add-mod', div-
 use native.Mathlib.Omega.{arith}
 use lib.Bits.{bitXor, xor-zero-r, xor-comm, xor-lt, xor-shr, xor-mod, xor-shifted, shifted-half, shifted-even}
 use lib.Dec.{eqb}
-use Rattle.checksum.specs.Checksum.{shifted, shifts, taken}
+use Rattle.checksum.specs.Checksum.{shifted, shifts, withByte}
 use Rattle.integers.proofs.Bits.{xor-assoc}
 use Rattle.checksum.proofs.Xor.{xor-swap, xor-digits, xor-zero}
 
@@ -65,8 +65,8 @@ above-byte : (c b h : ℕ) → b < 256 → bitXor (h * 256) (bitXor c b) ≡ bit
 above-byte c b h small =
     sym (xor-assoc (h * 256) c b) ∙ ap (λ (i : ℕ). bitXor i b) (xor-comm (h * 256) c) ∙ xor-assoc c (h * 256) b ∙ ap (bitXor c) (xor-shifted h 8 b small ∙ add-comm (h * 256) b)
 
-pub by-one : (c b h k : ℕ) → b < 256 → shifts k (bitXor (taken c b) h) ≡ shifts (8 + k) (bitXor c (b + h * 256))
-unfolding taken
+pub by-one : (c b h k : ℕ) → b < 256 → shifts k (bitXor (withByte c b) h) ≡ shifts (8 + k) (bitXor c (b + h * 256))
+unfolding withByte
 by-one c b h k small =
     ap (shifts k) (xor-comm (shifts 8 (bitXor c b)) h ∙ sym (shifts-beside 8 h (bitXor c b)) ∙ ap (shifts 8) (above-byte c b h small))
     ∙ sym (shifts-add 8 k (bitXor c (b + h * 256)))

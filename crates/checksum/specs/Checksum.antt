@@ -15,13 +15,13 @@ shifts zero c = c
 shifts (suc k) c = shifts k (shifted c)
 
 -- a byte is taken in: exclusive or, then eight shifts
-unfoldable pub taken : ℕ → ℕ → ℕ
+unfoldable pub withByte : ℕ → ℕ → ℕ
 unfolding shifts
-taken c b = shifts 8 (bitXor c b)
+withByte c b = shifts 8 (bitXor c b)
 
 abbrev pub checksumFrom : ℕ → List ℕ → ℕ
 checksumFrom c [] = c
-checksumFrom c (b ∷ rest) = checksumFrom (taken c b) rest
+checksumFrom c (b ∷ rest) = checksumFrom (withByte c b) rest
 
 -- the start is FFFF
 abbrev pub checksumOf : List ℕ → ℕ

@@ -5,8 +5,8 @@ use lib.IntN.{ℤ}
 use Rattle.figures.specs.declared.Calibration.{Calibration}
 use Rattle.compensation.specs.Reading.{y, rawCell, craw, cell, rawSystem, sraw, sys}
 use Rattle.compensation.specs.Values.{valuesOf}
-use Rattle.compensation.specs.ForCode.{inputAt, yAt, rawCellAt, crawAt, cellAt, cellValuesAt, valuesFrom}
+use Rattle.compensation.specs.ForCode.{inputAt, yAt, rawCellAt, crawAt, cellValueAt, cellValuesAt, valuesFrom}
 
 pub values-joined : (c : Calibration) (elec temp : ℤ) (integrity : ℕ) → valuesFrom (c .cell) (c .system) (cellValuesAt (c .cell) (c .linearity) (inputAt (c .temperature) elec temp)) elec temp integrity ≡ valuesOf c elec temp integrity
-unfolding valuesOf valuesFrom cellValuesAt y yAt rawCell rawCellAt craw crawAt cell cellAt rawSystem sraw sys
+unfolding valuesOf valuesFrom cellValuesAt y yAt rawCell rawCellAt craw crawAt cell cellValueAt rawSystem sraw sys
 values-joined c elec temp integrity = refl

@@ -19,7 +19,7 @@ use Rattle.figures.specs.declared.Linearity.{Linearity}
 use Rattle.figures.specs.declared.System.{System}
 use Rattle.compensation.specs.ReadingLimits.{elecMost}
 use Rattle.compensation.specs.Reading.{one, scaled, y, rawCell, craw, cell, rawSystem, sraw, sys}
-use Rattle.compensation.specs.ForCode.{inputAt, yAt, rawCellAt, crawAt, cellAt, rawSystemFrom, srawFrom, sysFrom, cellValuesAt, CellInput, SystemInput, ValuesInput}
+use Rattle.compensation.specs.ForCode.{inputAt, yAt, rawCellAt, crawAt, cellValueAt, rawSystemFrom, srawFrom, sysFrom, cellValuesAt, CellInput, SystemInput, ValuesInput}
 use Rattle.compensation.specs.declared.steps.Input.{Input}
 use Rattle.compensation.proofs.Held.{hold-within}
 
@@ -60,8 +60,8 @@ module _ (c : Cell) (l : Linearity) (i : Input) (ok : CellInput c l i) where
   correction-in : (interpolated 1 (linearities l) (crawAt c i)) within 65536000
   correction-in = interpolated-within 1 (linearities l) (crawAt c i) (ok .linearity-ok .clk-in)
 
-  cell-in : (cellAt c l i) within 2162688000
-  unfolding cellAt
+  cell-in : (cellValueAt c l i) within 2162688000
+  unfolding cellValueAt
   cell-in = within-add craw-in correction-in
 
 module _ (s : System) (cell : ℤ) (ok : SystemInput s cell) where
@@ -84,7 +84,7 @@ pub record CellMagnitudes (c : Cell) (l : Linearity) (i : Input) : Type 0 where
   pub y-within : (yAt c i) within 2600468480
   pub raw-cell-within : (rawCellAt c i) within 2860515323
   pub craw-within : (crawAt c i) within 2097152000
-  pub cell-within : (cellAt c l i) within 2162688000
+  pub cell-within : (cellValueAt c l i) within 2162688000
 
 pub cell-magnitudes : (c : Cell) (l : Linearity) (i : Input) → CellInput c l i → CellMagnitudes c l i
 cell-magnitudes c l i ok = record {
@@ -132,12 +132,12 @@ module _ (c : Calibration) (elec temp : ℤ) (ok : Acceptable c) (held : elec wi
   unfolding cellValuesAt crawAt
   values-input = record { cell-ok = ok .cell-ok; system-in = record { acceptable = ok .system-ok; cell-in = cell-kept .cell-within }; craw-held = refl }
 
-  system-kept : SystemMagnitudes (c .system) (cellAt (c .cell) (c .linearity) (inputAt (c .temperature) elec temp))
+  system-kept : SystemMagnitudes (c .system) (cellValueAt (c .cell) (c .linearity) (inputAt (c .temperature) elec temp))
   unfolding cellValuesAt
   system-kept = system-magnitudes (c .system) _ (values-input .system-in)
 
   pub magnitudes : Magnitudes c elec temp
-  unfolding y yAt rawCell rawCellAt craw crawAt cell cellAt rawSystem sraw sys
+  unfolding y yAt rawCell rawCellAt craw crawAt cell cellValueAt rawSystem sraw sys
   magnitudes = record {
     y-within = cell-kept .y-within;
     raw-cell-within = cell-kept .raw-cell-within;

@@ -41,12 +41,12 @@ unfoldable pub crawAt : Cell → Input → ℤ
 crawAt c i = hold (c .cmin) (c .cmax) (rawCellAt c i)
 
 -- 4
-unfoldable pub cellAt : Cell → Linearity → Input → ℤ
-cellAt c l i = crawAt c i +ℤ interpolated 1 (linearities l) (crawAt c i)
+unfoldable pub cellValueAt : Cell → Linearity → Input → ℤ
+cellValueAt c l i = crawAt c i +ℤ interpolated 1 (linearities l) (crawAt c i)
 
 -- 3 and 4
 unfoldable pub cellValuesAt : Cell → Linearity → Input → CellValues
-cellValuesAt c l i = record { raw = rawCellAt c i; craw = crawAt c i; cell = cellAt c l i }
+cellValuesAt c l i = record { raw = rawCellAt c i; craw = crawAt c i; cell = cellValueAt c l i }
 
 -- 5
 abbrev pub rawSystemFrom : System → ℤ → ℤ

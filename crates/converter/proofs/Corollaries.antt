@@ -30,21 +30,21 @@ use Rattle.converter.proofs.Listed.{unlisted, listed-at}
 use Rattle.binary32.specs.Sent.{stepFloat, wholeFloat}
 use Rattle.checksum.specs.Checksum.{framed}
 use Rattle.modbus.specs.Frame.{stationOf, functionOf, forUs, toUs, checked, judged}
-use Rattle.modbus.specs.Reply.{silent, answer, writeReply, exceptionCode, exceptionReply}
+use Rattle.modbus.specs.Reply.{silent, unlessSilent, writeReply, exceptionCode, exceptionReply}
 use Rattle.modbus.proofs.Replies.{length-framed, value-fits, write-fits, exception-fits}
 use Rattle.modbus.specs.declared.frame.Frame.{Frame}
 use Rattle.modbus.specs.declared.frame.Frame.the-variants.{Write, Act}
-use Rattle.state.specs.Reading.{badReading, taken}
+use Rattle.state.specs.Reading.{badReading, stateAfterReading}
 use Rattle.in_force.specs.InForce.{withFigures, withCopy, zeroSteps, offered, copyFits, applied, setupWritten, setupActed, setupBy}
 use Rattle.state.specs.Request.{flagWhole, acted, flagged, stateBy, fresh, snapped, peaksAt, peaksReset}
-use Rattle.answers.specs.Register.{stepsAt, readingFloat, readingAt, registerAt, answered, onCopy, numberOf}
+use Rattle.answers.specs.Register.{stepsAt, readingFloat, readingAt, registerAt, answerOf, onCopy, numberOf}
 use Rattle.answers.specs.Parts.{obeys}
-use Rattle.state.specs.Report.{reported}
+use Rattle.state.specs.Report.{reportOf}
 use Rattle.state.specs.declared.State.{State}
 use Rattle.answers.specs.declared.Answer.{Answer}
 use Rattle.answers.specs.declared.Answer.the-variants.{Value, Done, Refused}
 use Rattle.converter.specs.Making.{started}
-use Rattle.converter.specs.Call.{Call, reading, frame, report, obeyed, read, step, answerTo, number, replyWith, reply}
+use Rattle.converter.specs.Call.{Call, reading, frame, report, obeyed, afterReading, afterCall, answerToBytes, number, replyWith, reply}
 use Rattle.converter.specs.Reached.{Reached, Serving}
 use Rattle.converter.specs.Wire.{Sends, Withholds}
 use Rattle.converter.specs.declared.Device.{Device}
@@ -52,18 +52,18 @@ use Rattle.converter.specs.declared.Served.{Served}
 
 -- ---- "No refusal changes a device"
 
-obeyed-unchanged : (d : Device) (f : Frame) → (numberOf (answered (d .state) (d .setup) f) ≡ 0 → ⊥) → obeyed d f ≡ d
+obeyed-unchanged : (d : Device) (f : Frame) → (numberOf (answerOf (d .state) (d .setup) f) ≡ 0 → ⊥) → obeyed d f ≡ d
 obeyed-unchanged d f h = by (obeys (d .state) (d .setup) f) refl
   where
     by : (b : Bool) → obeys (d .state) (d .setup) f ≡ b → obeyed d f ≡ d
     by true e = absurd (h (ap numberOf (answer-obeyed (d .state) (d .setup) f e)))
     by false e = unobeyed d f e
 
-pub refused-unchanged : (d : Device) (c : Call) → (number d c ≡ 0 → ⊥) → step d c ≡ d
-unfolding answerTo
+pub refused-unchanged : (d : Device) (c : Call) → (number d c ≡ 0 → ⊥) → afterCall d c ≡ d
+unfolding answerToBytes
 refused-unchanged d (reading elec temp integrity) h = go (badReading elec temp integrity) h
   where
-    go : (b : Bool) → (_≡_ {A = ℕ} (cond b 9 0) 0 → ⊥) → cond b d (read d elec temp integrity) ≡ d
+    go : (b : Bool) → (_≡_ {A = ℕ} (cond b 9 0) 0 → ⊥) → cond b d (afterReading d elec temp integrity) ≡ d
     go true k = refl
     go false k = absurd (k refl)
 refused-unchanged d (frame bytes room) h = obeyed-unchanged d (judged bytes room (d .setup .station)) h
@@ -72,7 +72,7 @@ refused-unchanged d report h = refl
 -- ---- the length replied is within the lent buffer
 
 pub reply-fits : (d : Device) (s : List ℕ) (room : ℕ) → length (reply d s room) ≤ room
-reply-fits d s room = go (answerTo d s room)
+reply-fits d s room = go (answerToBytes d s room)
   where
     go : (a : Answer) → length (replyWith s room a) ≤ room
     go (Value x) = value-fits s room x
@@ -88,7 +88,7 @@ of-number (Refused m) n e h = ap Refused e
 
 module _ (d : Device) (s : List ℕ) (room : ℕ) where
   pub refused-reply : (n : ℕ) → number d (frame s room) ≡ n → (n ≡ 0 → ⊥) → reply d s room ≡ exceptionReply s room n
-  refused-reply n e h = ap (replyWith s room) (of-number (answerTo d s room) n e h)
+  refused-reply n e h = ap (replyWith s room) (of-number (answerToBytes d s room) n e h)
 
   pub silent-12 : number d (frame s room) ≡ 12 → reply d s room ≡ []
   unfolding exceptionReply exceptionCode
@@ -107,13 +107,13 @@ module _ (d : Device) (s : List ℕ) (room : ℕ) where
       or-true false true = refl
       or-true false false = refl
 
-  unanswered : stationOf s ≡ 0 → (bytes : List ℕ) → answer s room bytes ≡ []
-  unfolding answer
+  unanswered : stationOf s ≡ 0 → (bytes : List ℕ) → unlessSilent s room bytes ≡ []
+  unfolding unlessSilent
   unanswered e bytes = ap (λ (b : Bool). cond b [] (framed bytes)) (silent-to-all e)
 
   pub silent-broadcast : stationOf s ≡ 0 → reply d s room ≡ []
   unfolding writeReply exceptionReply
-  silent-broadcast e = go (answerTo d s room)
+  silent-broadcast e = go (answerToBytes d s room)
     where
       either : (b : Bool) (x : List ℕ) → x ≡ [] → (cond b x [] ≡ []) × (cond b [] x ≡ [])
       either true x h = (h, refl)
@@ -121,8 +121,8 @@ module _ (d : Device) (s : List ℕ) (room : ℕ) where
 
       go : (a : Answer) → replyWith s room a ≡ []
       go (Value x) = unanswered e _
-      go Done = either (eqb (length s) 13) (answer s room (take 6 s)) (unanswered e _) .0
-      go (Refused n) = either (eqb (exceptionCode n (functionOf s)) 0) (answer s room (stationOf s ∷ bitOr (functionOf s) 128 ∷ exceptionCode n (functionOf s) ∷ [])) (unanswered e _) .1
+      go Done = either (eqb (length s) 13) (unlessSilent s room (take 6 s)) (unanswered e _) .0
+      go (Refused n) = either (eqb (exceptionCode n (functionOf s)) 0) (unlessSilent s room (stationOf s ∷ bitOr (functionOf s) 128 ∷ exceptionCode n (functionOf s) ∷ [])) (unanswered e _) .1
 
 -- what silence means for the lent buffer and the length
 pub silence : {d : Device} {s before after : List ℕ} {r : Served} → Serving d s before after r → reply d s (length before) ≡ [] → (after ≡ before) × (r .length ≡ 0)
@@ -135,11 +135,11 @@ exceptionBytes s n = stationOf s ∷ bitOr (functionOf s) 128 ∷ exceptionCode 
 
 module _ (d : Device) (s : List ℕ) (room : ℕ) where
   no-room : ltb room 9 ≡ true → number d (frame s room) ≡ 12
-  unfolding answerTo answered judged
+  unfolding answerToBytes answerOf judged
   no-room e = rw e
 
   not-for-us : ltb room 9 ≡ false → forUs s (d .setup .station) ≡ false → number d (frame s room) ≡ 13
-  unfolding answerTo answered judged
+  unfolding answerToBytes answerOf judged
   not-for-us e f = rw (e, f)
 
   module _ (code : exceptionCode (number d (frame s room)) (functionOf s) ≡ 0 → ⊥) (ours : stationOf s ≡ 0 → ⊥) where
@@ -172,10 +172,10 @@ module _ (d : Device) (s : List ℕ) (room : ℕ) where
     answered-aloud = rw (roomy (ltb room 9) refl, framed-long, ne-eqb (stationOf s) 0 ours)
 
     pub exception-reply : reply d s room ≡ framed (exceptionBytes s (number d (frame s room)))
-    unfolding exceptionReply answer
+    unfolding exceptionReply unlessSilent
     exception-reply =
         refused-reply d s room (number d (frame s room)) refl numbered
-        ∙ ap (λ (b : Bool). cond b [] (answer s room (exceptionBytes s (number d (frame s room))))) (ne-eqb _ 0 code)
+        ∙ ap (λ (b : Bool). cond b [] (unlessSilent s room (exceptionBytes s (number d (frame s room))))) (ne-eqb _ 0 code)
         ∙ ap (λ (b : Bool). cond b [] (framed (exceptionBytes s (number d (frame s room))))) answered-aloud
 
 -- and by the papers' table of codes
@@ -198,7 +198,7 @@ exception {d} {s} {before} {after} {r} h code ours =
 
 module _ (d : Device) (s : List ℕ) (room : ℕ) where
   abbrev pub after : Device
-  after = step d (frame s room)
+  after = afterCall d (frame s room)
 
   does : (f : Frame) → judged s room (d .setup .station) ≡ f → after ≡ obeyed d f
   does f e = ap (λ (g : Frame). obeyed d g) e
@@ -233,13 +233,13 @@ module _ (d : Device) (s : List ℕ) (room : ℕ) where
 
   -- so the next reads show REBOOT, the SZ that was in force and no snapshot, and a report is refused
   pub rst-shown : Reached d → judged s room (d .setup .station) ≡ Act RST
-      → Sends after FLAG (wholeFloat 32768) × Sends after SZ (stepFloat (d .setup .figures .system .sz)) × Withholds after SYSN 11 × (reported (after .state .readings) .number ≡ 10)
-  unfolding registerAt fresh reported
+      → Sends after FLAG (wholeFloat 32768) × Sends after SZ (stepFloat (d .setup .figures .system .sz)) × Withholds after SYSN 11 × (reportOf (after .state .readings) .number ≡ 10)
+  unfolding registerAt fresh reportOf
   rst-shown h e = (
     shown h FLAG refl (ap (λ (g : Device). register g FLAG) (rst-starts e)),
     shown h SZ refl (ap (λ (g : Device). register g SZ) (rst-starts e)),
     withholds after (reached-station (reached-step h (frame s room))) SYSN refl (listed-at SYSN refl) (ap (λ (g : Device). register g SYSN) (rst-starts e)),
-    ap (λ (g : Device). reported (g .state .readings) .number) (rst-starts e),
+    ap (λ (g : Device). reportOf (g .state .readings) .number) (rst-starts e),
   )
 
   -- "a peak reset, which sets both to the present SYS"
@@ -254,7 +254,7 @@ module _ (d : Device) (s : List ℕ) (room : ℕ) where
       let sent : cond (t .readings .any) (Value sys) (Refused 10) ≡ Value sys = ap (λ (b : Bool). cond b (Value sys) (Refused 10)) any in
       (shown h PEAK refl (ap (λ (g : Device). register g PEAK) is ∙ sent), shown h TROF refl (ap (λ (g : Device). register g TROF) is ∙ sent))
 
-  -- an accepted write to 99 puts the copy in force, all but SZ, and touches nothing else; `read` (`specs/Call.antt`) takes the next
+  -- an accepted write to 99 puts the copy in force, all but SZ, and touches nothing else; `afterReading` (`specs/Call.antt`) takes the next
   -- reading by these figures
   pub copy-applied : judged s room (d .setup .station) ≡ Act APPLY → copyFits (d .setup) ≡ true
       → after ≡ record { setup = withFigures (d .setup) (offered (d .setup .figures .system .sz) (d .setup .copy)); state = d .state }
@@ -263,7 +263,7 @@ module _ (d : Device) (s : List ℕ) (room : ℕ) where
 
   -- and one that is refused, with 17, nothing
   pub copy-refused : judged s room (d .setup .station) ≡ Act APPLY → copyFits (d .setup) ≡ false → (number d (frame s room) ≡ 17) × (after ≡ d)
-  unfolding setupBy setupActed applied acted stateBy answerTo answered onCopy
+  unfolding setupBy setupActed applied acted stateBy answerToBytes answerOf onCopy
   copy-refused e f = (rw (e, f), does (Act APPLY) e ∙ rw f)
 
   -- a written figure: its own register shows it, every other of the copy what it showed, and nothing else changes

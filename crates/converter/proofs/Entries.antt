@@ -20,18 +20,18 @@ use Rattle.modbus.specs.Frame.{judged}
 use Rattle.modbus.specs.declared.frame.Frame.{Frame}
 use Rattle.modbus.specs.declared.frame.Frame.the-variants as asks
 use Rattle.modbus.specs.declared.frame.Frame.the-variants.{Read, Write, Act}
-use Rattle.state.specs.Reading.{badReading, heldAfter, taken, takenWith}
+use Rattle.state.specs.Reading.{badReading, heldAfter, stateAfterReading, stateAfterValues}
 use borrow.Author.Tests.{ne-eqb, eqb-true}
 use native.Mathlib.Omega.{arith}
 use Rattle.in_force.specs.InForce.{copyFits, applied, setupActed, setupBy}
 use Rattle.state.specs.Request.{fresh, snapped, peaksReset, acted, stateBy}
-use Rattle.answers.specs.Register.{answered, numberOf}
+use Rattle.answers.specs.Register.{answerOf, numberOf}
 use Rattle.answers.specs.Parts.{isRead, applies, isObeyed, obeys}
 use Rattle.in_force.specs.declared.Setup.{Setup}
 use Rattle.state.specs.declared.State.{State}
 use Rattle.converter.specs.Call as call
-use Rattle.converter.specs.Call.{obeyed, step, number, answerTo}
-use Rattle.converter.specs.Reached.{Reached, Answering, Reading, Serving}
+use Rattle.converter.specs.Call.{obeyed, afterCall, number, answerToBytes}
+use Rattle.converter.specs.Reached.{Reached, Delivers, Reading, Serving}
 use Rattle.answers.specs.declared.Answer.{Answer}
 use Rattle.converter.specs.declared.bus.Answered.{Answered}
 use Rattle.converter.specs.declared.Device.{Device}
@@ -42,7 +42,7 @@ use Rattle.converter.proofs.Reached.{reached-step, reached-sound}
 -- ---- a reading
 
 module _ {d : Device} (h : Reached d) (elec temp : ℤ) (integrity : ℕ) where
-  gives : {r : Outcome} → r ≡ record { number = number d (call.reading elec temp integrity); device = step d (call.reading elec temp integrity) } → Reading d elec temp integrity r
+  gives : {r : Outcome} → r ≡ record { number = number d (call.reading elec temp integrity); device = afterCall d (call.reading elec temp integrity) } → Reading d elec temp integrity r
   gives e = record { is = e; reached = subst (λ (r : Outcome). Reached (r .device)) (sym e) (reached-step h (call.reading elec temp integrity)) }
 
   pub refuses : badReading elec temp integrity ≡ true → Reading d elec temp integrity (record { number = 9; device = d })
@@ -68,9 +68,9 @@ module _ {d : Device} (h : Reached d) (elec temp : ℤ) (integrity : ℕ) where
         scales = rw (k-is, i-is, held-is) (values-input (d .setup .figures) _ temp (reached-sound h .setup-ok .acceptable) kept)
 
         -- and what the state that is given last makes of the device
-        pub joins : {v : Values} {s : State} → v ≡ valuesFrom (d .setup .figures .cell) (d .setup .figures .system) k held temp integrity → s ≡ takenWith (d .state) held temp v
+        pub joins : {v : Values} {s : State} → v ≡ valuesFrom (d .setup .figures .cell) (d .setup .figures .system) k held temp integrity → s ≡ stateAfterValues (d .state) held temp v
             → Reading d elec temp integrity (record { number = 0; device = record { setup = d .setup; state = s } })
-        unfolding taken
+        unfolding stateAfterReading
         joins v-is s-is = gives (rw (good, s-is, v-is, k-is, i-is, held-is, values-joined) refl)
 
 -- ---- a frame
@@ -111,12 +111,12 @@ read-unobeyed d (Act r) e = absurd (false≢true e)
 
 -- what is replied and what is left of the device keep the contract, by the answer x that the frame is due
 pub serves : {d : Device} → Reached d → (bytes before after : List ℕ) {f : Frame} {r : Answered} {e : Device} {x : Answer}
-    → f ≡ judged bytes (length before) (d .setup .station) → answered (d .state) (d .setup) f ≡ x → Answering x bytes before after r → e ≡ obeyed d f
+    → f ≡ judged bytes (length before) (d .setup .station) → answerOf (d .state) (d .setup) f ≡ x → Delivers x bytes before after r → e ≡ obeyed d f
     → Serving d bytes before after (record { number = r .number; length = r .length; device = e })
-unfolding answerTo
+unfolding answerToBytes
 serves {d} h bytes before after {f} {r} {e} {x} what due answers is =
-    let to-it : x ≡ answerTo d bytes (length before) = sym due ∙ ap (answered (d .state) (d .setup)) what in
-    let after-it : e ≡ step d (call.frame bytes (length before)) = is ∙ ap (obeyed d) what in
+    let to-it : x ≡ answerToBytes d bytes (length before) = sym due ∙ ap (answerOf (d .state) (d .setup)) what in
+    let after-it : e ≡ afterCall d (call.frame bytes (length before)) = is ∙ ap (obeyed d) what in
     record {
       number-is = answers .number-is ∙ ap numberOf to-it;
       device-is = after-it;

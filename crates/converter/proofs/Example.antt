@@ -18,11 +18,11 @@ use Rattle.compensation.specs.Stat.{bitAt, Raised, crawor, statOf}
 use Rattle.compensation.specs.Values.{valuesOf}
 use Rattle.binary32.specs.Received.{takes, nearest, counted}
 use Rattle.figures.specs.Unused.{unusedZero}
-use Rattle.checksum.specs.Checksum.{shifted, shifts, taken}
+use Rattle.checksum.specs.Checksum.{shifted, shifts, withByte}
 use Rattle.register.specs.Register.{accessOf, rangeOf}
 use Rattle.modbus.specs.Frame.{checked, toUs, forUs, accessAsked, writeOf, writeAsked, judged}
 use Rattle.state.specs.Reading as reading
-use Rattle.state.specs.Reading.{outside, badReading, larger, smaller, peakAfter, trofAfter, joined}
+use Rattle.state.specs.Reading.{outside, badReading, larger, smaller, peakAfter, trofAfter, readingsAfter}
 use Rattle.panel.specs.Figure.{isFigure, written, cellWith, temperaturePointWith, temperatureWith, linearityPointWith, linearityWith, systemWith, filterWith, withFigure}
 use Rattle.sheet.specs.Judge.{shortOf, wrongCount, beyond, notBelow, tooSteep, cellNumber, temperatureNumber, temperaturePointNumber, linearityNumber, linearityPointNumber, systemNumber, filterNumber, sectionsNumber, figuresNumber}
 use Rattle.in_force.specs.InForce.{copyFits, applied, setupWritten, setupActed, setupBy}
@@ -64,7 +64,7 @@ pub record Example (d : Device) : Type 0 where
 
 pub example : Example (run start calls)
 unfolding roundDiv floorDiv between interpolated defaultSheet temperatures linearities hold filtered scaled y rawCell craw cell rawSystem sraw sys bitAt statOf valuesOf takes nearest counted
-    rangeOf ofBits shifted shifts taken accessOf checked toUs forUs accessAsked writeOf writeAsked judged outside badReading larger smaller peakAfter trofAfter joined reading.takenWith reading.taken unusedZero isFigure written cellWith
+    rangeOf ofBits shifted shifts withByte accessOf checked toUs forUs accessAsked writeOf writeAsked judged outside badReading larger smaller peakAfter trofAfter readingsAfter reading.stateAfterValues reading.stateAfterReading unusedZero isFigure written cellWith
     temperaturePointWith temperatureWith linearityPointWith linearityWith systemWith filterWith withFigure shortOf wrongCount beyond notBelow tooSteep cellNumber temperatureNumber temperaturePointNumber linearityNumber
     linearityPointNumber systemNumber filterNumber sectionsNumber figuresNumber copyFits applied setupWritten setupActed setupBy fresh snapped acted flagged stateBy
 example = record {

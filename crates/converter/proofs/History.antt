@@ -22,7 +22,7 @@ use Rattle.register.specs.Number.{FLAG, RST, SNAP, PEAKRESET}
 use Rattle.modbus.specs.Frame.{judged}
 use Rattle.modbus.specs.declared.frame.Frame.{Frame}
 use Rattle.modbus.specs.declared.frame.Frame.the-variants.{Refused, Read, Write, Act}
-use Rattle.state.specs.Reading.{badReading, peakAfter, trofAfter, joined, heldAfter, taken, takenWith}
+use Rattle.state.specs.Reading.{badReading, peakAfter, trofAfter, readingsAfter, heldAfter, stateAfterReading, stateAfterValues}
 use Rattle.in_force.specs.InForce.{setupBy}
 use Rattle.state.specs.Request.{reboot, flagWhole, fresh, snapped, peaksAt, peaksReset, acted, flagged, stateBy}
 use Rattle.in_force.specs.declared.Setup.{Setup}
@@ -30,9 +30,9 @@ use Rattle.state.specs.declared.Readings.{Readings}
 use Rattle.state.specs.declared.State.{State}
 use Rattle.converter.specs.declared.Device.{Device}
 use Rattle.converter.specs.Making.{made, setupOf, started}
-use Rattle.converter.specs.Call.{Call, reading, frame, report, obeyed, read, step, run}
+use Rattle.converter.specs.Call.{Call, reading, frame, report, obeyed, afterReading, afterCall, run}
 use Rattle.converter.specs.Log as log
-use Rattle.converter.specs.Log.{Kept, valued, Entry, peakReset, Event, Log, latest, begun, heldBy, keptOf, join, resetPeaks, heed, note, noted, logOf}
+use Rattle.converter.specs.Log.{Kept, valued, Entry, peakReset, Event, Log, latest, begun, heldBy, keptOf, join, resetPeaks, logBy, note, noted, logOf}
 use Rattle.converter.specs.History.{sysSince, Largest, Smallest, Right}
 use Rattle.converter.proofs.Events.{Latched, latch-raised, latch-kept, latch-anew}
 use Rattle.converter.proofs.Extremes.{largest-one, smallest-one, largest-more, smallest-more}
@@ -76,8 +76,8 @@ held-same c r elec = go (r .any)
     go false = refl
 
 joins : (r : Readings) (held : Option ℤ) (es : List Entry) → Tells r held es → (k : Kept) → Acceptable (k .figures) → (k .elec) within elecMost
-    → Tells (joined r (k .elec) (k .temp) (valued k)) (some (k .elec)) (log.joined k ∷ es)
-unfolding joined peakAfter trofAfter
+    → Tells (readingsAfter r (k .elec) (k .temp) (valued k)) (some (k .elec)) (log.joined k ∷ es)
+unfolding readingsAfter peakAfter trofAfter
 joins r held es t k ok e = record {
   held-is = refl;
   follows = record {
@@ -96,13 +96,13 @@ joins r held es t k ok e = record {
     more (some j) f = rw (f .present) (largest-more (r .peak) (valued k .sys) (sysSince es) (f .peak), smallest-more (r .trof) (valued k .sys) (sysSince es) (f .trof))
 
 reads : (d : Device) (l : Log) → Tracks d l → (elec temp : ℤ) (integrity : ℕ) → badReading elec temp integrity ≡ false
-    → Tracks (read d elec temp integrity) (join l (keptOf l elec temp integrity))
-unfolding taken takenWith
+    → Tracks (afterReading d elec temp integrity) (join l (keptOf l elec temp integrity))
+unfolding stateAfterReading stateAfterValues
 reads d l t elec temp integrity g = record {
   setup-is = t .setup-is;
   tells = subst (λ (r : Readings). Tells r (some (k .elec)) (log.joined k ∷ l .readings)) (sym same-readings) (joins (d .state .readings) (l .held) (l .readings) (t .tells) k ok within-held);
   latched = λ b. subst (λ (v : Values). Latched b (bitOr (d .state .flag) (v .stat)) (log.raised (valued k .stat) ∷ l .events)) (sym same-values) (latch-raised b (d .state .flag) (valued k .stat) (l .events) (t .latched b));
-  sound = subst Sound (ap (λ (b : Bool). cond b d (read d elec temp integrity)) g) (step-sound d (reading elec temp integrity) (t .sound));
+  sound = subst Sound (ap (λ (b : Bool). cond b d (afterReading d elec temp integrity)) g) (step-sound d (reading elec temp integrity) (t .sound));
 }
   where
     k : Kept
@@ -116,9 +116,9 @@ reads d l t elec temp integrity g = record {
     same-values : valuesOf (d .setup .figures) (heldAfter (d .setup .figures) (d .state .readings) elec) temp integrity ≡ valued k
     same-values = ap₂ (λ (s : Setup) (h : ℤ). valuesOf (s .figures) h temp integrity) (t .setup-is) same-held
 
-    same-readings : joined (d .state .readings) (heldAfter (d .setup .figures) (d .state .readings) elec) temp (valuesOf (d .setup .figures) (heldAfter (d .setup .figures) (d .state .readings) elec) temp integrity)
-        ≡ joined (d .state .readings) (k .elec) temp (valued k)
-    same-readings = ap₂ (λ (h : ℤ) (v : Values). joined (d .state .readings) h temp v) same-held same-values
+    same-readings : readingsAfter (d .state .readings) (heldAfter (d .setup .figures) (d .state .readings) elec) temp (valuesOf (d .setup .figures) (heldAfter (d .setup .figures) (d .state .readings) elec) temp integrity)
+        ≡ readingsAfter (d .state .readings) (k .elec) temp (valued k)
+    same-readings = ap₂ (λ (h : ℤ) (v : Values). readingsAfter (d .state .readings) h temp v) same-held same-values
 
     ok : Acceptable (l .setup .figures)
     ok = subst (λ (s : Setup). Acceptable (s .figures)) (t .setup-is) (t .sound .setup-ok .acceptable)
@@ -129,7 +129,7 @@ reads d l t elec temp integrity g = record {
         (held-within (d .setup .figures) (d .state .readings) elec (t .sound .setup-ok .acceptable) (t .sound .state-ok .readings-ok .held-in) (good-elec elec temp integrity g))
 
 reads-or-not : (d : Device) (l : Log) → Tracks d l → (elec temp : ℤ) (integrity : ℕ) (bad : Bool) → badReading elec temp integrity ≡ bad
-    → Tracks (cond bad d (read d elec temp integrity)) (cond bad l (join l (keptOf l elec temp integrity)))
+    → Tracks (cond bad d (afterReading d elec temp integrity)) (cond bad l (join l (keptOf l elec temp integrity)))
 reads-or-not d l t elec temp integrity true e = t
 reads-or-not d l t elec temp integrity false e = reads d l t elec temp integrity e
 
@@ -210,7 +210,7 @@ acts d l t s s′ e false snap reset n h =
     let p = acted-state (d .state) (l .held) (l .readings) (l .events) (t .tells) (t .latched) snap reset n in
     record { setup-is = e; tells = p .0; latched = p .1; sound = h }
 
-obeys : (d : Device) (l : Log) → Tracks d l → (f : Frame) → Sound (obeyed d f) → Tracks (obeyed d f) (heed l f)
+obeys : (d : Device) (l : Log) → Tracks d l → (f : Frame) → Sound (obeyed d f) → Tracks (obeyed d f) (logBy l f)
 unfolding setupBy stateBy flagged acted
 obeys d l t (Refused n) h = record { setup-is = t .setup-is; tells = t .tells; latched = t .latched; sound = t .sound }
 obeys d l t (Read r) h = record { setup-is = t .setup-is; tells = t .tells; latched = t .latched; sound = t .sound }
@@ -223,18 +223,18 @@ obeys d l t (Act r) h =
 
 -- ---- one call, and all of them
 
-pub steps : (d : Device) (l : Log) → Tracks d l → (c : Call) → Tracks (step d c) (note l c)
+pub steps : (d : Device) (l : Log) → Tracks d l → (c : Call) → Tracks (afterCall d c) (note l c)
 steps d l t (reading elec temp integrity) = reads-or-not d l t elec temp integrity (badReading elec temp integrity) refl
 steps d l t (frame bytes room) =
     let f : Frame = judged bytes room (l .setup .station) in
     let same : judged bytes room (d .setup .station) ≡ f = ap (λ (s : Setup). judged bytes room (s .station)) (t .setup-is) in
-    subst (λ (g : Frame). Tracks (obeyed d g) (heed l f)) (sym same)
+    subst (λ (g : Frame). Tracks (obeyed d g) (logBy l f)) (sym same)
     (obeys d l t f (subst (λ (g : Frame). Sound (obeyed d g)) same (step-sound d (frame bytes room) (t .sound))))
 steps d l t report = t
 
 pub runs : (d : Device) (l : Log) → Tracks d l → (cs : List Call) → Tracks (run d cs) (noted l cs)
 runs d l t [] = t
-runs d l t (c ∷ cs) = runs (step d c) (note l c) (steps d l t c) cs
+runs d l t (c ∷ cs) = runs (afterCall d c) (note l c) (steps d l t c) cs
 
 pub tracks : (sheet : List ℕ) (station : ℕ) → made sheet station .number ≡ 0 → (calls : List Call) → Tracks (run (made sheet station .device) calls) (logOf sheet station calls)
 tracks sheet station h calls =

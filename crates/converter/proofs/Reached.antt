@@ -6,7 +6,7 @@ use Prim.Native.Nat.{ℕ}
 use lib.IntN.{ℤ}
 use Rattle.converter.specs.declared.Device.{Device}
 use Rattle.converter.specs.Making.{made}
-use Rattle.converter.specs.Call.{Call, step, run}
+use Rattle.converter.specs.Call.{Call, afterCall, run}
 use Rattle.converter.specs.Reached.{Reached}
 use Rattle.converter.specs.Log.{Log, logOf}
 use Rattle.converter.specs.Snapshot.{sysnOf}
@@ -15,21 +15,21 @@ use Rattle.converter.proofs.Sound.{Sound}
 use Rattle.converter.proofs.History.{Tracks, tracks}
 use Rattle.converter.proofs.Agrees.{history}
 
-run-more : (d : Device) (cs : List Call) (c : Call) → run d (cs ++ (c ∷ [])) ≡ step (run d cs) c
+run-more : (d : Device) (cs : List Call) (c : Call) → run d (cs ++ (c ∷ [])) ≡ afterCall (run d cs) c
 run-more d [] c = refl
-run-more d (x ∷ cs) c = run-more (step d x) cs c
+run-more d (x ∷ cs) c = run-more (afterCall d x) cs c
 
 pub reached-made : (sheet : List ℕ) (station : ℕ) → made sheet station .number ≡ 0 → Reached (made sheet station .device)
 reached-made sheet station h = record { sheet = sheet; station = station; accepted = h; calls = []; is = refl }
 
 -- every call on a reached device gives a reached device
-pub reached-step : {d : Device} → Reached d → (c : Call) → Reached (step d c)
+pub reached-step : {d : Device} → Reached d → (c : Call) → Reached (afterCall d c)
 reached-step r c = record {
   sheet = r .sheet;
   station = r .station;
   accepted = r .accepted;
   calls = r .calls ++ (c ∷ []);
-  is = ap (λ (d : Device). step d c) (r .is) ∙ sym (run-more _ (r .calls) c);
+  is = ap (λ (d : Device). afterCall d c) (r .is) ∙ sym (run-more _ (r .calls) c);
 }
 
 abbrev pub log-of : {d : Device} → Reached d → Log

@@ -13,7 +13,7 @@ use Rattle.register.specs.Number.{STAT, SOUT, SYS, TEMP, SRAW, CELL, FLAG, CRAW
 use Rattle.register.specs.Ends.{kindSaid}
 use Rattle.panel.specs.Figure.{isFigure, figureFloat}
 use Rattle.answers.specs.Register.{stepsAt, readingFloat, readingAt, panelAt, registerAt}
-use Rattle.state.specs.Report.{noReport, reported}
+use Rattle.state.specs.Report.{noReport, reportOf}
 use Rattle.in_force.specs.declared.Setup.{Setup}
 use Rattle.state.specs.declared.Readings.{Readings}
 use Rattle.state.specs.declared.Snapshot.{Snapshot}
@@ -30,8 +30,8 @@ use Rattle.converter.proofs.Wire.{register, sends, withholds, unlisted-
 -- ---- the report
 
 report-of : (r : Readings) (v : Values) → r .any ≡ true → r .values ≡ v
-    → reported r ≡ record { number = 0; report = record { sys = stepFloat (v .sys); peak = stepFloat (r .peak); trof = stepFloat (r .trof); cell = stepFloat (v .cell) } }
-unfolding reported
+    → reportOf r ≡ record { number = 0; report = record { sys = stepFloat (v .sys); peak = stepFloat (r .peak); trof = stepFloat (r .trof); cell = stepFloat (v .cell) } }
+unfolding reportOf
 report-of r v present is =
     ap (λ (b : Bool). cond b (given (r .values)) (record { number = 10; report = noReport })) present ∙ ap given is
   where
@@ -83,7 +83,7 @@ module _ (d : Device) (station : d .setup .station ≡ 0 → ⊥) where
   read = ((refl, refl), ((refl, refl), ((refl, refl), ((refl, refl), ((refl, refl), ((refl, refl), ((refl, refl), ((refl, refl), ((refl, refl), ((refl, refl), tt))))))))))
 
   pub none-shown : d .state .readings .any ≡ false → NoneShown d
-  unfolding reported readingAt
+  unfolding reportOf readingAt
   none-shown e = record {
     values = λ n m. let r = among Read ofReading read n m in withholds d station n refl (listed-at n (r .0)) (r .1 ∙ rw e);
     report = rw e;

@@ -14,13 +14,13 @@ use Rattle.register.specs.Number.{FLAG, RST, SNAP, PEAKRESET}
 use Rattle.modbus.specs.Frame.{judged}
 use Rattle.modbus.specs.declared.frame.Frame.{Frame}
 use Rattle.modbus.specs.declared.frame.Frame.the-variants.{Refused, Read, Write, Act}
-use Rattle.state.specs.Reading.{badReading, taken, takenWith}
+use Rattle.state.specs.Reading.{badReading, stateAfterReading, stateAfterValues}
 use Rattle.state.specs.Request.{fresh, snapped, peaksReset, acted, flagged, stateBy}
 use Rattle.in_force.specs.declared.Setup.{Setup}
 use Rattle.state.specs.declared.Snapshot.{Snapshot}
 use Rattle.state.specs.declared.State.{State}
 use Rattle.converter.specs.Making.{made, setupOf}
-use Rattle.converter.specs.Call.{Call, reading, frame, report, read, step, run}
+use Rattle.converter.specs.Call.{Call, reading, frame, report, afterReading, afterCall, run}
 use Rattle.converter.specs.Log.{Kept, Log, latest, begun, note}
 use Rattle.converter.specs.Snapshot.{snapBy, shotBy, shot, shots, sysnOf}
 use Rattle.converter.specs.declared.Device.{Device}
@@ -53,9 +53,9 @@ module _ (d : Device) (l : Log) (t : Tracks d l) (z : Option ℤ) (h : Taken (d 
   obeys (Write r x) = pick (eqb r FLAG) _ _ (λ (s : State). Taken (s .snapshot) z) (λ e. h) (λ e. h)
   obeys (Act r) = acts (eqb r RST) (eqb r SNAP) (eqb r PEAKRESET)
 
-  one : (c : Call) → Taken (step d c .state .snapshot) (shot l z c)
-  unfolding taken takenWith
-  one (reading elec temp integrity) = pick (badReading elec temp integrity) d (read d elec temp integrity) (λ (g : Device). Taken (g .state .snapshot) z) (λ e. h) (λ e. h)
+  one : (c : Call) → Taken (afterCall d c .state .snapshot) (shot l z c)
+  unfolding stateAfterReading stateAfterValues
+  one (reading elec temp integrity) = pick (badReading elec temp integrity) d (afterReading d elec temp integrity) (λ (g : Device). Taken (g .state .snapshot) z) (λ e. h) (λ e. h)
   one (frame bytes room) =
       subst (λ (s : Setup). Taken (stateBy (d .state) (judged bytes room (d .setup .station)) .snapshot) (shotBy l z (judged bytes room (s .station)))) (t .setup-is)
       (obeys (judged bytes room (d .setup .station)))
@@ -63,7 +63,7 @@ module _ (d : Device) (l : Log) (t : Tracks d l) (z : Option ℤ) (h : Taken (d 
 
 all : (d : Device) (l : Log) → Tracks d l → (z : Option ℤ) → Taken (d .state .snapshot) z → (cs : List Call) → Taken (run d cs .state .snapshot) (shots l z cs)
 all d l t z h [] = h
-all d l t z h (c ∷ cs) = all (step d c) (note l c) (steps d l t c) (shot l z c) (one d l t z h c) cs
+all d l t z h (c ∷ cs) = all (afterCall d c) (note l c) (steps d l t c) (shot l z c) (one d l t z h c) cs
 
 pub snapshots : (sheet : List ℕ) (station : ℕ) → made sheet station .number ≡ 0 → (calls : List Call)
     → Taken (run (made sheet station .device) calls .state .snapshot) (sysnOf sheet station calls)

@@ -33,7 +33,7 @@ use Rattle.sheet.proofs.Theorems.{judged-acceptable}
 use Rattle.modbus.specs.declared.frame.Frame.{Frame}
 use Rattle.modbus.specs.declared.frame.Frame.the-variants.{Refused, Read, Write, Act}
 use Rattle.modbus.specs.Frame.{judged}
-use Rattle.state.specs.Reading.{outside, beyond, badReading, larger, smaller, peakAfter, trofAfter, joined, heldAfter, taken, takenWith}
+use Rattle.state.specs.Reading.{outside, beyond, badReading, larger, smaller, peakAfter, trofAfter, readingsAfter, heldAfter, stateAfterReading, stateAfterValues}
 use Rattle.in_force.specs.InForce.{withZero, zeroSteps, withFigures, withCopy, offered, copyFits, applied, setupWritten, setupActed, setupBy}
 use Rattle.state.specs.Request.{noReadings, fresh, snapped, peaksAt, peaksReset, acted, flagged, stateBy}
 use Rattle.state.specs.Within.{valueMost, ReadingsWithin}
@@ -43,7 +43,7 @@ use Rattle.state.specs.declared.Readings.{Readings}
 use Rattle.state.specs.declared.State.{State}
 use Rattle.converter.specs.declared.Device.{Device}
 use Rattle.converter.specs.Making.{started}
-use Rattle.converter.specs.Call.{Call, reading, frame, report, read, step}
+use Rattle.converter.specs.Call.{Call, reading, frame, report, afterReading, afterCall}
 
 pub record ReadingsSound (r : Readings) : Type 0 where
   pub held-in : (r .elec) within elecMost
@@ -108,8 +108,8 @@ unfolding smaller
 smaller-within {n} a b h k = pick (ltZ b a) b a (λ z. z within n) (λ e. k) (λ e. h)
 
 join-sound : (c : Calibration) (r : Readings) (elec temp : ℤ) (integrity : ℕ) → Acceptable c → ReadingsSound r → elec within elecMost → temp within tempMost
-    → ReadingsSound (joined r elec temp (valuesOf c elec temp integrity))
-unfolding joined peakAfter trofAfter valuesOf
+    → ReadingsSound (readingsAfter r elec temp (valuesOf c elec temp integrity))
+unfolding readingsAfter peakAfter trofAfter valuesOf
 join-sound c r elec temp integrity ok h e t =
     let m = magnitudes c elec temp ok e in
     let w = h .values-in in
@@ -127,8 +127,8 @@ join-sound c r elec temp integrity ok h e t =
       };
     }
 
-read-sound : (d : Device) (elec temp : ℤ) (integrity : ℕ) → Sound d → badReading elec temp integrity ≡ false → Sound (read d elec temp integrity)
-unfolding taken takenWith
+read-sound : (d : Device) (elec temp : ℤ) (integrity : ℕ) → Sound d → badReading elec temp integrity ≡ false → Sound (afterReading d elec temp integrity)
+unfolding stateAfterReading stateAfterValues
 read-sound d elec temp integrity h e = record {
   setup-ok = h .setup-ok;
   state-ok = record {
@@ -239,8 +239,8 @@ state-sound s (Act r) h =
 pub started-sound : (s : Setup) → SetupSound s → Sound (started s)
 started-sound s h = record { setup-ok = h; state-ok = fresh-sound }
 
-pub step-sound : (d : Device) (c : Call) → Sound d → Sound (step d c)
-step-sound d (reading elec temp integrity) h = pick (badReading elec temp integrity) d (read d elec temp integrity) Sound (λ e. h) (λ e. read-sound d elec temp integrity h e)
+pub step-sound : (d : Device) (c : Call) → Sound d → Sound (afterCall d c)
+step-sound d (reading elec temp integrity) h = pick (badReading elec temp integrity) d (afterReading d elec temp integrity) Sound (λ e. h) (λ e. read-sound d elec temp integrity h e)
 step-sound d (frame bytes room) h =
     let f : Frame = judged bytes room (d .setup .station) in
     record { setup-ok = setup-sound (d .setup) f (h .setup-ok); state-ok = state-sound (d .state) f (h .state-ok) }

@@ -14,7 +14,7 @@ use Rattle.in_force.specs.InForce.{copyFits, applied, setupWritten, setupActed,
 use Rattle.state.specs.Reading.{badReading}
 use Rattle.in_force.specs.declared.Setup.{Setup}
 use Rattle.converter.specs.Making.{stationFits, noDevice, made}
-use Rattle.converter.specs.Call.{Call, reading, frame, report, read, step, run}
+use Rattle.converter.specs.Call.{Call, reading, frame, report, afterReading, afterCall, run}
 use Rattle.converter.specs.Reached.{Reached}
 use Rattle.converter.specs.declared.Device.{Device}
 use Rattle.converter.proofs.Made.{making-accepted}
@@ -28,10 +28,10 @@ by-station s (Act r) =
     pick (eqb r APPLY) _ _ (λ (t : Setup). t .station ≡ s .station) (λ h. pick (copyFits s) _ _ (λ (t : Setup). t .station ≡ s .station) (λ g. refl) (λ g. refl))
     (λ h. pick (eqb r RST) _ _ (λ (t : Setup). t .station ≡ s .station) (λ g. refl) (λ g. refl))
 
-step-station : (d : Device) (c : Call) → step d c .setup .station ≡ d .setup .station
+step-station : (d : Device) (c : Call) → afterCall d c .setup .station ≡ d .setup .station
 step-station d (reading elec temp integrity) = by (badReading elec temp integrity)
   where
-    by : (b : Bool) → cond b d (read d elec temp integrity) .setup .station ≡ d .setup .station
+    by : (b : Bool) → cond b d (afterReading d elec temp integrity) .setup .station ≡ d .setup .station
     by true = refl
     by false = refl
 step-station d (frame bytes room) = by-station (d .setup) (judged bytes room (d .setup .station))
@@ -39,7 +39,7 @@ step-station d report = refl
 
 run-station : (d : Device) (cs : List Call) → run d cs .setup .station ≡ d .setup .station
 run-station d [] = refl
-run-station d (c ∷ cs) = run-station (step d c) cs ∙ step-station d c
+run-station d (c ∷ cs) = run-station (afterCall d c) cs ∙ step-station d c
 
 module _ (sheet : List ℕ) (station : ℕ) (accepted : made sheet station .number ≡ 0) where
   pub made-station : (calls : List Call) → run (made sheet station .device) calls .setup .station ≡ station

@@ -12,14 +12,14 @@ use Rattle.register.specs.Ends.{notListed, kindSaid}
 use Rattle.modbus.specs.Frame.{judged}
 use Rattle.modbus.specs.Master.{readRequest}
 use Rattle.modbus.specs.Exception.{topSet, codeSaid, Heard}
-use Rattle.modbus.specs.Reply.{answer}
+use Rattle.modbus.specs.Reply.{unlessSilent}
 use Rattle.modbus.specs.declared.frame.Frame.{Frame}
 use Rattle.modbus.proofs.Master.{understood}
 use Rattle.modbus.proofs.Exception.{heard, exceptions-hold}
-use Rattle.answers.specs.Register.{registerAt, answered, numberOf}
+use Rattle.answers.specs.Register.{registerAt, answerOf, numberOf}
 use Rattle.answers.specs.declared.Answer.{Answer}
 use Rattle.answers.specs.declared.Answer.the-variants.{Value, Refused}
-use Rattle.converter.specs.Call.{frame, answerTo, number, replyWith, reply}
+use Rattle.converter.specs.Call.{frame, answerToBytes, number, replyWith, reply}
 use Rattle.converter.specs.Wire.{Sends, Withholds}
 use Rattle.converter.specs.declared.Device.{Device}
 
@@ -28,11 +28,11 @@ abbrev pub register : Device → ℕ → Answer
 register d n = registerAt (d .state) (d .setup .figures .system .sz) (d .setup .copy) n
 
 -- a frame, by what it asks
-pub by-request : (d : Device) (s : List ℕ) (room : ℕ) {f : Frame} {a : Answer} → judged s room (d .setup .station) ≡ f → answered (d .state) (d .setup) f ≡ a
+pub by-request : (d : Device) (s : List ℕ) (room : ℕ) {f : Frame} {a : Answer} → judged s room (d .setup .station) ≡ f → answerOf (d .state) (d .setup) f ≡ a
     → (number d (frame s room) ≡ numberOf a) × (reply d s room ≡ replyWith s room a)
-unfolding answerTo
+unfolding answerToBytes
 by-request d s room e is =
-    let same = ap (answered (d .state) (d .setup)) e ∙ is in
+    let same = ap (answerOf (d .state) (d .setup)) e ∙ is in
     (ap numberOf same, ap (replyWith s room) same)
 
 module _ (d : Device) (some : d .setup .station ≡ 0 → ⊥) (n : ℕ) where
@@ -44,13 +44,13 @@ module _ (d : Device) (some : d .setup .station ≡ 0 → ⊥) (n : ℕ) where
   read-heard enough = record { room-enough = enough; long-enough = lit≤ tt; to-one = some }
 
   pub sends : {x : Float} → (kindSaid n ≡ notListed → ⊥) → register d n ≡ Value x → Sends d n x
-  unfolding answered answer framed
+  unfolding answerOf unlessSilent framed
   sends {x} listed is room enough =
       let a = by-request d request room (understood (d .setup .station) room some enough .0 .listed n listed) is in
       (a .0, a .1 ∙ ap (λ (b : Bool). cond b [] (framed (d .setup .station ∷ 3 ∷ 4 ∷ sent x))) (heard request room (read-heard enough)))
 
   refused : {m : ℕ} {f : Frame} → codeSaid m 3 ≡ 2 → ((room : ℕ) → 9 ≤ room → judged request room (d .setup .station) ≡ f)
-      → answered (d .state) (d .setup) f ≡ Refused m → Withholds d n m
+      → answerOf (d .state) (d .setup) f ≡ Refused m → Withholds d n m
   unfolding framed
   refused {m} two asks is room enough =
       let a = by-request d request room (asks room enough) is in
@@ -58,9 +58,9 @@ module _ (d : Device) (some : d .setup .station ≡ 0 → ⊥) (n : ℕ) where
       (a .0, a .1 ∙ code ∙ ap (λ (c : ℕ). framed (d .setup .station ∷ topSet 3 ∷ c ∷ [])) two)
 
   pub withholds : {m : ℕ} → codeSaid m 3 ≡ 2 → (kindSaid n ≡ notListed → ⊥) → register d n ≡ Refused m → Withholds d n m
-  unfolding answered
+  unfolding answerOf
   withholds two listed is = refused two (λ room enough. understood (d .setup .station) room some enough .0 .listed n listed) is
 
   pub unlisted-withheld : kindSaid n ≡ notListed → Withholds d n 15
-  unfolding answered
+  unfolding answerOf
   unlisted-withheld e = refused refl (λ room enough. understood (d .setup .station) room some enough .0 .unlisted n e) refl

@@ -14,13 +14,13 @@ use Rattle.register.specs.Ends.{acting, kindSaid}
 use Rattle.modbus.specs.Frame.{judged}
 use Rattle.modbus.specs.Master.{asking, writeRequest, Reaches, WritesAsked}
 use Rattle.modbus.specs.Exception.{codeSaid, Heard}
-use Rattle.modbus.specs.Reply.{answer, writeReply}
+use Rattle.modbus.specs.Reply.{unlessSilent, writeReply}
 use Rattle.modbus.specs.declared.frame.Frame.{Frame}
 use Rattle.modbus.specs.declared.frame.Frame.the-variants as asks
 use Rattle.modbus.specs.declared.frame.Frame.the-variants.{Write, Act}
 use Rattle.modbus.proofs.Master.{understood}
 use Rattle.modbus.proofs.Exception.{heard, exceptions-hold}
-use Rattle.answers.specs.Register.{onReading, onCopy, answered}
+use Rattle.answers.specs.Register.{onReading, onCopy, answerOf}
 use Rattle.answers.specs.declared.Answer.the-variants.{Done, Refused}
 use Rattle.converter.specs.Call.{frame, obeyed}
 use Rattle.converter.specs.Reached.{Reached}
@@ -51,8 +51,8 @@ module _ (d : Device) (to-one : d .setup .station ≡ 0 → ⊥) (x : Float) (f3
   unfolding framed wireBytes
   heard-own enough = record { room-enough = enough; long-enough = lit≤ tt; to-one = to-one }
 
-  obeys : (f : Frame) → Asks f → answered (d .state) (d .setup) f ≡ Done → Obeys d r x f
-  unfolding framed wireBytes answer writeReply
+  obeys : (f : Frame) → Asks f → answerOf (d .state) (d .setup) f ≡ Done → Obeys d r x f
+  unfolding framed wireBytes unlessSilent writeReply
   obeys f asks is = record {
     confirmed = λ room enough.
         let a = by-request d own room (asked asks station room (inl refl) enough) is in
@@ -61,7 +61,7 @@ module _ (d : Device) (to-one : d .setup .station ≡ 0 → ⊥) (x : Float) (f3
     does = λ receiver room to enough. ap (obeyed d) (asked asks receiver room to enough);
   }
 
-  rejects : (n : ℕ) (f : Frame) → T (ltb 0 (codeSaid n 16)) → Asks f → answered (d .state) (d .setup) f ≡ Refused n → Rejects d r x n (codeSaid n 16)
+  rejects : (n : ℕ) (f : Frame) → T (ltb 0 (codeSaid n 16)) → Asks f → answerOf (d .state) (d .setup) f ≡ Refused n → Rejects d r x n (codeSaid n 16)
   unfolding framed wireBytes
   rejects n f some asks is = record {
     told = λ room enough.
@@ -77,7 +77,7 @@ module _ (d : Device) (to-one : d .setup .station ≡ 0 → ⊥) (x : Float) (f3
       coded z = omega (arith, ltb→lt 0 (codeSaid n 16) some, z)
 
 pub writes : Writes
-unfolding answered onReading onCopy
+unfolding answerOf onReading onCopy
 writes d reached x f32 = record {
   taken = λ r h t. obeys d to-one x f32 r (Write r x) (λ receiver room a. a .taken r h t) refl;
   unfit = λ r h t. refused r 16 tt (λ receiver room a. a .unfit r h t);
@@ -95,10 +95,10 @@ writes d reached x f32 = record {
     to-one : d .setup .station ≡ 0 → ⊥
     to-one = reached-station reached
 
-    acts : (r : ℕ) → kindSaid r ≡ acting → answered (d .state) (d .setup) (Act r) ≡ Done → Obeys d r x (Act r)
+    acts : (r : ℕ) → kindSaid r ≡ acting → answerOf (d .state) (d .setup) (Act r) ≡ Done → Obeys d r x (Act r)
     acts r k is = obeys d to-one x f32 r (Act r) (λ receiver room a. a .action r k) is
 
-    stays : (r : ℕ) → kindSaid r ≡ acting → (n : ℕ) → T (ltb 0 (codeSaid n 16)) → answered (d .state) (d .setup) (Act r) ≡ Refused n → Rejects d r x n (codeSaid n 16)
+    stays : (r : ℕ) → kindSaid r ≡ acting → (n : ℕ) → T (ltb 0 (codeSaid n 16)) → answerOf (d .state) (d .setup) (Act r) ≡ Refused n → Rejects d r x n (codeSaid n 16)
     stays r k n some is = rejects d to-one x f32 r n (Act r) some (λ receiver room a. a .action r k) is
 
     refused : (r n : ℕ) → T (ltb 0 (codeSaid n 16)) → Asks d to-one x f32 r (asks.Refused n) → Rejects d r x n (codeSaid n 16)

@@ -6,11 +6,11 @@ use lib.IntN.{ℤ}
 use Rattle.modbus.specs.Frame.{judged}
 use Rattle.modbus.specs.declared.frame.Frame.{Frame}
 use Rattle.modbus.specs.Reply.{valueReply, writeReply, exceptionReply}
-use Rattle.state.specs.Reading.{badReading, taken}
+use Rattle.state.specs.Reading.{badReading, stateAfterReading}
 use Rattle.in_force.specs.InForce.{setupBy}
 use Rattle.state.specs.Request.{stateBy}
-use Rattle.answers.specs.Register.{answered, numberOf}
-use Rattle.state.specs.Report.{reported}
+use Rattle.answers.specs.Register.{answerOf, numberOf}
+use Rattle.state.specs.Report.{reportOf}
 use Rattle.converter.specs.declared.Device.{Device}
 use Rattle.answers.specs.declared.Answer.{Answer}
 use Rattle.answers.specs.declared.Answer.the-variants.{Value, Done, Refused}
@@ -27,27 +27,27 @@ obeyed d f = record { setup = setupBy (d .setup) f; state = stateBy (d .state) f
 
 -- ---- the device after a call, and after a list of them: "Each call gets the device that the last gave back"
 
-abbrev pub read : Device → ℤ → ℤ → ℕ → Device
-read d elec temp integrity = record { setup = d .setup; state = taken (d .setup .figures) (d .state) elec temp integrity }
+abbrev pub afterReading : Device → ℤ → ℤ → ℕ → Device
+afterReading d elec temp integrity = record { setup = d .setup; state = stateAfterReading (d .setup .figures) (d .state) elec temp integrity }
 
-abbrev pub step : Device → Call → Device
-step d (reading elec temp integrity) = cond (badReading elec temp integrity) d (read d elec temp integrity)
-step d (frame bytes room) = obeyed d (judged bytes room (d .setup .station))
-step d report = d
+abbrev pub afterCall : Device → Call → Device
+afterCall d (reading elec temp integrity) = cond (badReading elec temp integrity) d (afterReading d elec temp integrity)
+afterCall d (frame bytes room) = obeyed d (judged bytes room (d .setup .station))
+afterCall d report = d
 
 abbrev pub run : Device → List Call → Device
 run d [] = d
-run d (c ∷ cs) = run (step d c) cs
+run d (c ∷ cs) = run (afterCall d c) cs
 
 -- ---- the number that a call gives, and a frame's reply
 
-unfoldable pub answerTo : Device → List ℕ → ℕ → Answer
-answerTo d bytes room = answered (d .state) (d .setup) (judged bytes room (d .setup .station))
+unfoldable pub answerToBytes : Device → List ℕ → ℕ → Answer
+answerToBytes d bytes room = answerOf (d .state) (d .setup) (judged bytes room (d .setup .station))
 
 abbrev pub number : Device → Call → ℕ
 number d (reading elec temp integrity) = cond (badReading elec temp integrity) 9 0
-number d (frame bytes room) = numberOf (answerTo d bytes room)
-number d report = reported (d .state .readings) .number
+number d (frame bytes room) = numberOf (answerToBytes d bytes room)
+number d report = reportOf (d .state .readings) .number
 
 -- the reply's bytes, none where the device is silent
 abbrev pub replyWith : List ℕ → ℕ → Answer → List ℕ
@@ -56,4 +56,4 @@ replyWith bytes room Done = writeReply bytes room
 replyWith bytes room (Refused n) = exceptionReply bytes room n
 
 abbrev pub reply : Device → List ℕ → ℕ → List ℕ
-reply d bytes room = replyWith bytes room (answerTo d bytes room)
+reply d bytes room = replyWith bytes room (answerToBytes d bytes room)

@@ -12,7 +12,7 @@ use Rattle.compensation.specs.Faithful.{Faithful}
 use Rattle.binary32.specs.Sent.{stepFloat, wholeFloat}
 use Rattle.register.specs.Ends.{notListed, kindSaid}
 use Rattle.panel.specs.Figure.{isFigure, figureFloat}
-use Rattle.state.specs.Report.{noReport, reported}
+use Rattle.state.specs.Report.{noReport, reportOf}
 use Rattle.state.specs.declared.Readings.{Readings}
 use Rattle.converter.specs.declared.Device.{Device}
 use Rattle.converter.specs.Making.{made}
@@ -94,7 +94,7 @@ ofReading = 6 ∷ 9 ∷ 10 ∷ 11 ∷ 12 ∷ 13 ∷ 15 ∷ 16 ∷ 24 ∷ 25 ∷ 
 
 pub record NoneShown (d : Device) : Type 0 where
   pub values : (n : ℕ) → List·Memᴰ n ofReading → Withholds d n 10
-  pub report : reported (d .state .readings) ≡ record { number = 10; report = noReport }
+  pub report : reportOf (d .state .readings) ≡ record { number = 10; report = noReport }
 
 -- once a reading is kept, and k is the last one
 pub record Shown (d : Device) (k : Kept) : Type 0 where
@@ -108,7 +108,7 @@ pub record Shown (d : Device) (k : Kept) : Type 0 where
   pub elec : Sends d 16 (stepFloat (k .elec))
   pub peak : Sends d 24 (stepFloat (d .state .readings .peak))
   pub trof : Sends d 25 (stepFloat (d .state .readings .trof))
-  pub report : reported (d .state .readings) ≡ record {
+  pub report : reportOf (d .state .readings) ≡ record {
     number = 0;
     report = record { sys = stepFloat (valued k .sys); peak = stepFloat (d .state .readings .peak); trof = stepFloat (d .state .readings .trof); cell = stepFloat (valued k .cell) };
   }

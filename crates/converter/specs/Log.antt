@@ -77,23 +77,23 @@ resetPeaks (some k) es = peakReset ∷ es
 
 -- "Reads, SNAP, reports and refused calls .. do nothing."; "The log of 01 keeps the copy too, by these same rules from the calls alone,
 -- and judges 17 by it as it judges 10" (Change 1): `setupBy`, over the copy and the figures that the log keeps
-abbrev pub heed : Log → Frame → Log
-heed l (Refused n) = l
-heed l (Read r) = l
-heed l (Write r x) = record {
+abbrev pub logBy : Log → Frame → Log
+logBy l (Refused n) = l
+logBy l (Read r) = l
+logBy l (Write r x) = record {
   setup = setupBy (l .setup) (Write r x);
   held = l .held;
   readings = l .readings;
   events = cond (eqb r FLAG) (kept (flagWhole x) ∷ l .events) (l .events);
 }
-heed l (Act r) =
+logBy l (Act r) =
     let setup = setupBy (l .setup) (Act r) in
     cond (eqb r RST) (begun setup (l .events))
     (record { setup = setup; held = l .held; readings = cond (eqb r PEAKRESET) (resetPeaks (latest (l .readings)) (l .readings)) (l .readings); events = l .events })
 
 abbrev pub note : Log → Call → Log
 note l (reading elec temp integrity) = cond (badReading elec temp integrity) l (join l (keptOf l elec temp integrity))
-note l (frame bytes room) = heed l (judged bytes room (l .setup .station))
+note l (frame bytes room) = logBy l (judged bytes room (l .setup .station))
 note l report = l
 
 abbrev pub noted : Log → List Call → Log

@@ -61,7 +61,7 @@ pub data Case : Type 0 where
   -- steps, and the pattern of their float
   goesOut : (steps : ℤ) (pattern : ℕ) → Case
   -- CLK this far apart: the sheet's number, 0 for an accepted one
-  judged : (clk : ℤ) (number : ℕ) → Case
+  sheetJudged : (clk : ℤ) (number : ℕ) → Case
   -- a pattern written to SZ: the float that it is, whether SZ takes it, and SZ in steps
   becomes : (pattern : ℕ) (x : Float) (taken : Bool) (steps : ℤ) → Case
 
@@ -73,7 +73,7 @@ asked (inDefault elec _ _ _) = inDefault elec (pos 0) (pos 0) 0
 asked (adjusted g _) = adjusted g (pos 0)
 asked (filteredBy fflv _) = filteredBy fflv (pos 0)
 asked (goesOut steps _) = goesOut steps 0
-asked (judged clk _) = judged clk 0
+asked (sheetJudged clk _) = sheetJudged clk 0
 asked (becomes pattern _ _ _) = becomes pattern (fin false 0 (pos 0)) false (pos 0)
 
 -- with the results that the definitions give from its arguments
@@ -85,7 +85,7 @@ worked (inDefault elec _ _ _) =
 worked (adjusted g _) = adjusted g (rawCell (gainOf20 g) (pos 6553600) (pos 0))
 worked (filteredBy fflv _) = filteredBy fflv (filtered (fourSteps fflv) false (pos 0) (pos 10))
 worked (goesOut steps _) = goesOut steps (toBits binary32 (stepFloat steps))
-worked (judged clk _) = judged clk (sheetNumber (sheetBytes (apart clk)))
+worked (sheetJudged clk _) = sheetJudged clk (sheetNumber (sheetBytes (apart clk)))
 worked (becomes pattern _ _ _) =
     becomes pattern (ofBits binary32 pattern) (takes (rangeOf SZ) (ofBits binary32 pattern)) (counted (rangeOf SZ) (ofBits binary32 pattern))
 
@@ -116,8 +116,8 @@ starred =
     ∷ goesOut (negℤ (pos 1)) 0xB7800000
     ∷ goesOut (pos 16777217) 0x43800000
     -- "CLX 400 apart: CLK 100 apart is accepted, 101 is refused with 5."
-    ∷ judged (pos 100) 0
-    ∷ judged (pos 101) 5
+    ∷ sheetJudged (pos 100) 0
+    ∷ sheetJudged (pos 101) 5
     -- "SZ 2^−17 becomes 1 step, −2^−17 becomes 0." `fin s m e` is m × 2^e, negative where s is `true`.
     ∷ becomes 0x37000000 (fin false 1 (negℤ (pos 17))) true (pos 1)
     ∷ becomes 0xB7000000 (fin true 1 (negℤ (pos 17))) true (pos 0)

@@ -15,41 +15,41 @@ use Rattle.modbus.specs.Exception.{topSet}
 use Rattle.modbus.specs.declared.frame.Frame.{Frame}
 use Rattle.modbus.specs.declared.frame.Frame.the-variants.{Write, Act}
 use Rattle.in_force.specs.InForce.{copyFits}
-use Rattle.converter.specs.Call.{frame, obeyed, step, number, reply}
+use Rattle.converter.specs.Call.{frame, obeyed, afterCall, number, reply}
 use Rattle.converter.specs.Reached.{Reached}
 use Rattle.converter.specs.declared.Device.{Device}
 
 -- a request's number and the bytes replied, in every buffer that 12 does not turn down
-abbrev pub Answers : Device → List ℕ → ℕ → List ℕ → Type 0
-Answers d request n bytes = (room : ℕ) → 9 ≤ room → (number d (frame request room) ≡ n) × (reply d request room ≡ bytes)
+abbrev pub Gets : Device → List ℕ → ℕ → List ℕ → Type 0
+Gets d request n bytes = (room : ℕ) → 9 ≤ room → (number d (frame request room) ≡ n) × (reply d request room ≡ bytes)
 
 -- ---- a read of register r
 
 -- it sends x: "function 3, 9 bytes"
 abbrev pub Sends : Device → ℕ → Float → Type 0
-Sends d r x = let station = d .setup .station in Answers d (readRequest station r) 0 (framed (station ∷ 3 ∷ 4 ∷ sent x))
+Sends d r x = let station = d .setup .station in Gets d (readRequest station r) 0 (framed (station ∷ 3 ∷ 4 ∷ sent x))
 
 -- or is refused with n: "exception, 5 bytes: station, function with its top bit set, code, checksum. Code .. 2 for 15, 11, and 10 on a
 -- read"
 abbrev pub Withholds : Device → ℕ → ℕ → Type 0
-Withholds d r n = let station = d .setup .station in Answers d (readRequest station r) n (framed (station ∷ topSet 3 ∷ 2 ∷ []))
+Withholds d r n = let station = d .setup .station in Gets d (readRequest station r) n (framed (station ∷ topSet 3 ∷ 2 ∷ []))
 
 -- ---- a write of x to register r, to the device's station and to all: "Station 0 is broadcast: writes act, nothing is replied, faults
 -- keep their number"
 
 abbrev pub Leaves : Device → ℕ → Float → Device → Type 0
-Leaves d r x after = (receiver room : ℕ) → Reaches receiver (d .setup .station) → 9 ≤ room → step d (frame (writeRequest receiver r x) room) ≡ after
+Leaves d r x after = (receiver room : ℕ) → Reaches receiver (d .setup .station) → 9 ≤ room → afterCall d (frame (writeRequest receiver r x) room) ≡ after
 
 -- it is obeyed: "16, the first 6 bytes and checksum"
 pub record Obeys (d : Device) (r : ℕ) (x : Float) (f : Frame) : Type 0 where
-  pub confirmed : let station = d .setup .station in Answers d (writeRequest station r x) 0 (framed (asking station 16 r))
-  pub broadcast : Answers d (writeRequest 0 r x) 0 []
+  pub confirmed : let station = d .setup .station in Gets d (writeRequest station r x) 0 (framed (asking station 16 r))
+  pub broadcast : Gets d (writeRequest 0 r x) 0 []
   pub does : Leaves d r x (obeyed d f)
 
 -- or refused with n: "No refusal changes a device"
 pub record Rejects (d : Device) (r : ℕ) (x : Float) (n code : ℕ) : Type 0 where
-  pub told : let station = d .setup .station in Answers d (writeRequest station r x) n (framed (station ∷ topSet 16 ∷ code ∷ []))
-  pub broadcast : Answers d (writeRequest 0 r x) n []
+  pub told : let station = d .setup .station in Gets d (writeRequest station r x) n (framed (station ∷ topSet 16 ∷ code ∷ []))
+  pub broadcast : Gets d (writeRequest 0 r x) n []
   pub does : Leaves d r x d
 
 -- every register; "RST 100, SNAP 103, peak reset 104", "our own register 99" (Change 1). "Code .. 2 for 15 ..; 3 for 16, and 10 on a write"; 3 for 17 (Change 1)

@@ -3,11 +3,11 @@ ghost use mathlib.Core.Path.{_≡_};
 ghost use mathlib.Core.Bool.{true};
 ghost use lib.ListN.{length};
 ghost use Rattle.modbus.specs.Reply.{Replied};
-ghost use Rattle.answers.specs.Register.{answered, numberOf};
+ghost use Rattle.answers.specs.Register.{answerOf, numberOf};
 ghost use Rattle.answers.specs.Parts.{isRead, refusalOf};
 ghost use Rattle.answers.specs.declared.Answer.the-variants.{Done, Refused};
 ghost use Rattle.converter.specs.Call.{replyWith};
-ghost use Rattle.converter.specs.Reached.{Parts, Answering};
+ghost use Rattle.converter.specs.Reached.{Parts, Delivers};
 use answers::Answer;
 use in_force::Setup;
 use modbus::frame::Frame;
@@ -20,7 +20,7 @@ pub struct Answered {
     pub length: usize,
 }
 
-fn number_in(answer: Answer) -> u8
+fn number_of(answer: Answer) -> u8
     ensures { λ r. ⌜ r ≡ numberOf answer ⌝ }
 {
     match answer {
@@ -50,17 +50,17 @@ pub fn answer(
     reply: &mut [u8],
 ) -> Answered
     requires { ⌜ (isRead request ≡ true) × Parts state setup ⌝ }
-    ensures { λ r. ⌜ Answering (answered state setup request) (now (frame .entry)) (now (reply .entry)) (now (reply .exit)) r ⌝ }
+    ensures { λ r. ⌜ Delivers (answerOf state setup request) (now (frame .entry)) (now (reply .entry)) (now (reply .exit)) r ⌝ }
 {
     let answer = answers::answer_to_read(state, setup, request);
     let length = reply_with(frame, reply, answer);
-    let number = number_in(answer);
+    let number = number_of(answer);
     Answered { number, length }
 }
 
 // A write or an action that was obeyed is acknowledged.
 pub fn acknowledge(frame: &[u8], reply: &mut [u8]) -> Answered
-    ensures { λ r. ⌜ Answering Done (now (frame .entry)) (now (reply .entry)) (now (reply .exit)) r ⌝ }
+    ensures { λ r. ⌜ Delivers Done (now (frame .entry)) (now (reply .entry)) (now (reply .exit)) r ⌝ }
 {
     let length = modbus::reply::acknowledgement(frame, reply);
     Answered { number: 0, length }
@@ -68,7 +68,7 @@ pub fn acknowledge(frame: &[u8], reply: &mut [u8]) -> Answered
 
 // A frame that is no read and was not obeyed is refused.
 pub fn refuse(request: Frame, frame: &[u8], reply: &mut [u8]) -> Answered
-    ensures { λ r. ⌜ Answering (Refused (refusalOf request)) (now (frame .entry)) (now (reply .entry)) (now (reply .exit)) r ⌝ }
+    ensures { λ r. ⌜ Delivers (Refused (refusalOf request)) (now (frame .entry)) (now (reply .entry)) (now (reply .exit)) r ⌝ }
 {
     let number = answers::refusal(request);
     let length = modbus::reply::exception(frame, reply, number);

@@ -1,7 +1,7 @@
 // The converter (01): a device and its entries, making, reading, report and bus frame. Each takes any bytes and numbers, and any
 // device that a making and these calls gave; it answers 0, or the number of 01's table of turned-down calls.
 ghost use mathlib.Core.Path.{_≡_};
-ghost use Rattle.state.specs.Report.{reported};
+ghost use Rattle.state.specs.Report.{reportOf};
 ghost use Rattle.converter.specs.Call.{obeyed};
 ghost use Rattle.converter.specs.Reached.{Reached, Making, Reading, Serving};
 
@@ -95,7 +95,7 @@ impl Device {
     // SYS, PEAK, TROF and CELL of the readings: 10, and 0.0 each.
     pub fn report(self) -> Reported
         requires { ⌜ Reached self ⌝ }
-        ensures { λ r. ⌜ r ≡ reported (self .state .readings) ⌝ }
+        ensures { λ r. ⌜ r ≡ reportOf (self .state .readings) ⌝ }
     {
         let state = self.state;
         state::report_of(state.readings)
@@ -124,8 +124,8 @@ impl Device {
     fn obey(self, asked: Frame) -> Device
         ensures { λ r. ⌜ r ≡ obeyed self asked ⌝ }
     {
-        let setup = in_force::setup_after(self.setup, asked);
-        let state = state::state_after(self.state, asked);
+        let setup = in_force::setup_by(self.setup, asked);
+        let state = state::state_by(self.state, asked);
         Device { setup, state }
     }
 }

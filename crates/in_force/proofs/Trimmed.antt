@@ -17,7 +17,7 @@ use Rattle.figures.specs.declared.TemperaturePoint.{TemperaturePoint}
 use Rattle.figures.specs.declared.LinearityPoint.{LinearityPoint}
 use Rattle.figures.specs.declared.Calibration.{Calibration}
 use Rattle.sheet.proofs.Points.{used-at, used-past}
-use Rattle.panel.specs.Figure.{cellAt, linearityAt, systemAt, filterAt, temperatureAt, figureAt}
+use Rattle.panel.specs.Figure.{cellFigure, linearityFigure, systemFigure, filterFigure, temperatureFigure, figureAt}
 use Rattle.panel.specs.Placed.{temperaturePoint, linearityPoint, Shown}
 use Rattle.panel.proofs.Placed.{placed}
 use Rattle.panel.proofs.Unused.{unused-representable}
@@ -34,7 +34,7 @@ module _ {A : Type 0} (none : A) (field : A → ℤ) (nought : field none ≡ po
   }
 
 pub trimmed : (c : Calibration) (z : ℤ) → Trimmed c (withZero (unusedZero c) z)
-unfolding figureAt cellAt linearityAt systemAt filterAt temperatureAt unusedZero
+unfolding figureAt cellFigure linearityFigure systemFigure filterFigure temperatureFigure unusedZero
 trimmed c z =
     let t = c .temperature in
     let l = c .linearity in

@@ -20,7 +20,7 @@ use Rattle.register.specs.Number.{SZ, APPLY, RST}
 use Rattle.register.specs.Register.{accessOf, rangeOf}
 use Rattle.modbus.specs.declared.frame.Frame.{Frame}
 use Rattle.modbus.specs.declared.frame.Frame.the-variants.{Refused, Read, Write, Act}
-use Rattle.panel.specs.Figure.{systemAt, figureAt, isFigure, figureFloat, written}
+use Rattle.panel.specs.Figure.{systemFigure, figureAt, isFigure, figureFloat, written}
 use Rattle.panel.specs.Placed.{numbers}
 use Rattle.panel.proofs.Placed.{placed}
 use Rattle.in_force.specs.declared.Setup.{Setup}
@@ -48,7 +48,7 @@ module _ (s : Setup) where
       (record { shows = placed .written-read (s .copy) r n x f; others = placed .others-kept (s .copy) r n x; in-force = refl })
 
   zeroed : (x : Float) → Zeroed s (setupBy s (Write 22 x)) (counted (rangeOf 22) x)
-  unfolding systemAt figureAt setupBy setupWritten
+  unfolding systemFigure figureAt setupBy setupWritten
   zeroed x = record { sz = refl; others = λ m. refl; copy = refl }
 
   unwritten : (n : ℕ) (x : Float) → isIn (22 ∷ numbers) n ≡ false → setupBy s (Write n x) ≡ s

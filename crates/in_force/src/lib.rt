@@ -99,7 +99,7 @@ fn act(setup: Setup, register: u32) -> Setup
     next
 }
 
-pub fn setup_after(setup: Setup, frame: Frame) -> Setup
+pub fn setup_by(setup: Setup, frame: Frame) -> Setup
     ensures { λ r. ⌜ r ≡ setupBy setup frame ⌝ }
 {
     match frame {

@@ -12,7 +12,7 @@ use lib.Ieee.Fits.{and-l, and-r}
 use Rattle.integers.proofs.Order.{is-true, pick}
 use Rattle.checksum.specs.Checksum.{framed}
 use Rattle.modbus.specs.Frame.{stationOf, functionOf}
-use Rattle.modbus.specs.Reply.{silent, answer, exceptionCode, exceptionReply}
+use Rattle.modbus.specs.Reply.{silent, unlessSilent, exceptionCode, exceptionReply}
 use Rattle.modbus.specs.Exception.{Row, exceptions, codeIn, codeSaid, topSet, Heard, ExceptionsHold}
 use Rattle.register.proofs.Run.{at-every}
 
@@ -27,7 +27,7 @@ module _ (s : List ℕ) (room : ℕ) (h : Heard s room) where
 
   replies : (n code f : ℕ) → functionOf s ≡ f → exceptionCode n f ≡ code → (code ≡ 0 → ⊥) → f < 256
       → exceptionReply s room n ≡ framed (stationOf s ∷ topSet f ∷ code ∷ [])
-  unfolding exceptionReply answer
+  unfolding exceptionReply unlessSilent
   replies n code f e c some byte = rw (e, c, ne-eqb code 0 some, heard, top-set f byte)
 
 -- ---- the rows, by one computed test

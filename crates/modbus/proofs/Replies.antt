@@ -16,7 +16,7 @@ use Rattle.binary32.specs.Wire.{wireBytes, sent}
 use Rattle.modbus.specs.Frame.{stationOf, functionOf}
 use Rattle.checksum.proofs.Bytes.{Bytes, bytes-each}
 use Rattle.integers.proofs.Words.{bytes-word}
-use Rattle.modbus.specs.Reply.{silent, answer, valueReply, writeReply, exceptionCode, exceptionReply, Replied}
+use Rattle.modbus.specs.Reply.{silent, unlessSilent, valueReply, writeReply, exceptionCode, exceptionReply, Replied}
 
 -- ---- what a test of silence tells
 
@@ -46,23 +46,23 @@ length-framed l = length-append l (checksumOf l % 256 ∷ checksumOf l / 256 ∷
 module _ (s b l : List ℕ) where
   -- of the n bytes of a word that is put
   pub replied : (after : List ℕ) (n word r : ℕ) → silent s (length b) ≡ false → Bytes l → length l ≡ n → word ≡ wordOf l
-      → (r ≡ n + 2) × (after ≡ framed (wordBytes n word) ++ drop (n + 2) b) → Replied (answer s (length b) l) b after r
-  unfolding answer
+      → (r ≡ n + 2) × (after ≡ framed (wordBytes n word) ++ drop (n + 2) b) → Replied (unlessSilent s (length b) l) b after r
+  unfolding unlessSilent
   replied after n word r h bs e w put =
       let size : r ≡ length (framed l) = put .0 ∙ sym (length-framed l ∙ ap (λ (k : ℕ). k + 2) e) in
       let bytes : wordBytes n word ≡ l = ap₂ wordBytes (sym e) w ∙ bytes-word l (bytes-each l bs) in
       subst (λ (t : Bool). Replied (cond t [] (framed l)) b after r) (sym h)
       (record { count = size; buffer = put .1 ∙ ap₂ (λ (m : List ℕ) (k : ℕ). framed m ++ drop k b) bytes (sym (put .0) ∙ size) })
 
-  pub unreplied : silent s (length b) ≡ true → Replied (answer s (length b) l) b b 0
-  unfolding answer
+  pub unreplied : silent s (length b) ≡ true → Replied (unlessSilent s (length b) l) b b 0
+  unfolding unlessSilent
   unreplied h = subst (λ (t : Bool). Replied (cond t [] (framed l)) b b 0) (sym h) (record { count = refl; buffer = refl })
 
 -- ---- a reply fits the buffer: it has at most 9 bytes, and there is none with less room
 
 module _ (s : List ℕ) (room : ℕ) where
-  answer-fits : (l : List ℕ) → length l ≤ 7 → length (answer s room l) ≤ room
-  unfolding answer
+  answer-fits : (l : List ℕ) → length l ≤ 7 → length (unlessSilent s room l) ≤ room
+  unfolding unlessSilent
   answer-fits l h = by (silent s room) refl
     where
       by : (t : Bool) → silent s room ≡ t → length (cond t [] (framed l)) ≤ room
@@ -77,7 +77,7 @@ module _ (s : List ℕ) (room : ℕ) where
   unfolding writeReply
   write-fits = by (eqb (length s) 13)
     where
-      by : (t : Bool) → length (cond t (answer s room (take 6 s)) []) ≤ room
+      by : (t : Bool) → length (cond t (unlessSilent s room (take 6 s)) []) ≤ room
       by true = answer-fits (take 6 s) (omega (arith, length-take 6 s))
       by false = omega arith
 
@@ -85,6 +85,6 @@ module _ (s : List ℕ) (room : ℕ) where
   unfolding exceptionReply
   exception-fits number = by (eqb (exceptionCode number (functionOf s)) 0)
     where
-      by : (t : Bool) → length (cond t [] (answer s room (stationOf s ∷ bitOr (functionOf s) 128 ∷ exceptionCode number (functionOf s) ∷ []))) ≤ room
+      by : (t : Bool) → length (cond t [] (unlessSilent s room (stationOf s ∷ bitOr (functionOf s) 128 ∷ exceptionCode number (functionOf s) ∷ []))) ≤ room
       by true = omega arith
       by false = answer-fits _ (lit≤ tt)

@@ -19,7 +19,7 @@ pub enum Frame {
 }
 
 // Two bytes, the high one first.
-fn word(bytes: &[u8], at: usize) -> u32
+fn word_at(bytes: &[u8], at: usize) -> u32
     requires { ⌜ at + 1 < length (now bytes) ⌝ }
     ensures { λ r. ⌜ r ≡ wordAt (now (bytes .entry)) at ⌝ }
 {
@@ -73,7 +73,7 @@ fn access_asked(frame: &[u8]) -> Access
     requires { ⌜ 4 ≤ length (now frame) ⌝ }
     ensures { λ r. ⌜ r ≡ accessAsked (now (frame .entry)) ⌝ }
 {
-    let address = word(frame, 2);
+    let address = word_at(frame, 2);
     if address % 2 == 0 {
         return register::access_to(address / 2);
     }
@@ -87,10 +87,10 @@ fn read_asked(frame: &[u8]) -> Frame
     if frame.len() != 8 {
         return Frame::Refused(16);
     }
-    if word(frame, 4) != 2 {
+    if word_at(frame, 4) != 2 {
         return Frame::Refused(16);
     }
-    let address = word(frame, 2);
+    let address = word_at(frame, 2);
     if address % 2 == 0 {
         if register::is_listed(address / 2) {
             return Frame::Read(address / 2);
@@ -134,14 +134,14 @@ fn write_asked(frame: &[u8]) -> Frame
     if frame.len() != 13 {
         return Frame::Refused(16);
     }
-    if word(frame, 4) != 2 {
+    if word_at(frame, 4) != 2 {
         return Frame::Refused(16);
     }
     if frame[6] != 4 {
         return Frame::Refused(16);
     }
     let x = binary32::wire::float_of_bytes(frame[7], frame[8], frame[9], frame[10]);
-    let address = word(frame, 2);
+    let address = word_at(frame, 2);
     if address == 2 * register::SZ {
         return zero_write(x);
     }

@@ -16,7 +16,7 @@ use Rattle.register.specs.Ends.{isIn}
 use Rattle.register.proofs.Run.{at-every}
 use Rattle.register.proofs.Registers.{told}
 use Rattle.register.proofs.Ends.{none-in}
-use Rattle.panel.specs.Figure.{among, cellAt, linearityAt, systemAt, filterAt, temperatureAt, figureAt, isFigure, withFigure, systemWith, written}
+use Rattle.panel.specs.Figure.{among, cellFigure, linearityFigure, systemFigure, filterFigure, temperatureFigure, figureAt, isFigure, withFigure, systemWith, written}
 use Rattle.panel.specs.Placed.{temperaturePoint, linearityPoint, Shown, numbers, Placed}
 use Rattle.panel.proofs.Columns.{clx-at, clk-at, ct-at, ctg-at, cto-at}
 use Rattle.panel.proofs.Listed.{beyond}
@@ -25,11 +25,11 @@ use Rattle.panel.proofs.Places.{read-written, others-kept, counts-writt
 -- ---- the tables' sections
 
 module _ (c : Calibration) (n : ℕ) where
-  in-linearity : CLN ≤ n → n < SGAI → linearityAt (c .linearity) n ≡ figureAt c n
+  in-linearity : CLN ≤ n → n < SGAI → linearityFigure (c .linearity) n ≡ figureAt c n
   unfolding figureAt
   in-linearity h k = simp (le-ltb n CLN h, lt-ltb n SGAI k)
 
-  in-temperature : CTN ≤ n → temperatureAt (c .temperature) n ≡ figureAt c n
+  in-temperature : CTN ≤ n → temperatureFigure (c .temperature) n ≡ figureAt c n
   unfolding figureAt
   in-temperature h = simp (le-ltb n CLN (omega arith), le-ltb n SGAI (omega arith), le-ltb n FFLV (omega arith), le-ltb n CTN h)
 
@@ -37,7 +37,7 @@ back : (a i : ℕ) → a + i - a ≡ i
 back a i = omega arith
 
 shown : (c : Calibration) → Shown c
-unfolding figureAt cellAt linearityAt systemAt filterAt temperatureAt
+unfolding figureAt cellFigure linearityFigure systemFigure filterFigure temperatureFigure
 shown c = record {
   cgai = refl;
   cofs = refl;
@@ -87,7 +87,7 @@ part true h k = h
 part false h k = k
 
 no-other : (c : Calibration) (n : ℕ) → isFigure n ≡ false → figureAt c n ≡ pos 0
-unfolding figureAt cellAt linearityAt systemAt filterAt temperatureAt isFigure
+unfolding figureAt cellFigure linearityFigure systemFigure filterFigure temperatureFigure isFigure
 no-other c n =
     (part (ltb n CLN) (key (eqb n CGAI) _ (key (eqb n COFS) _ (key (eqb n CMIN) _ (key (eqb n CMAX) _ none))))
     (part (ltb n SGAI) (key (eqb n CLN) _ (key (among CLX (CLX + 6) n) _ (key (among CLK (CLK + 6) n) _ none)))

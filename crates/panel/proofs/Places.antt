@@ -29,7 +29,7 @@ use Rattle.binary32.proofs.Counted.{counted-within, counted-up}
 use Rattle.register.specs.Number.{CGAI, COFS, CMIN, CMAX, CLN, CLX, CLK, SGAI, SOFS, SMIN, SMAX, FFLV, FFST, CTN, CT, CTG, CTO}
 use Rattle.register.specs.Register.{accessOf, rangeOf}
 use Rattle.register.proofs.Registers.{least-within}
-use Rattle.panel.specs.Figure.{among, cellAt, linearityAt, systemAt, filterAt, temperatureAt, figureAt, isFigure, put, numbered, cellWith, linearityPointWith, linearityWith, systemWith, filterWith, temperaturePointWith, temperatureWith, withFigure, written, Counts, InRange}
+use Rattle.panel.specs.Figure.{among, cellFigure, linearityFigure, systemFigure, filterFigure, temperatureFigure, figureAt, isFigure, put, numbered, cellWith, linearityPointWith, linearityWith, systemWith, filterWith, temperaturePointWith, temperatureWith, withFigure, written, Counts, InRange}
 use Rattle.panel.proofs.Numbered.{at, numbered-long}
 
 module _ (n : ℕ) (z : ℤ) where
@@ -63,16 +63,16 @@ module _ (n : ℕ) (z : ℤ) where
   part m true h k = h
   part m false h k = k
 
-  cell-after : (c : Cell) (m : ℕ) → After m (eqb m CGAI || (eqb m COFS || (eqb m CMIN || (eqb m CMAX || false)))) (cellAt c m) (cellAt (cellWith n z c) m)
-  unfolding cellAt cellWith
+  cell-after : (c : Cell) (m : ℕ) → After m (eqb m CGAI || (eqb m COFS || (eqb m CMIN || (eqb m CMAX || false)))) (cellFigure c m) (cellFigure (cellWith n z c) m)
+  unfolding cellFigure cellWith
   cell-after c m = key m CGAI (c .cgai) (key m COFS (c .cofs) (key m CMIN (c .cmin) (key m CMAX (c .cmax) (none m))))
 
-  system-after : (s : System) (m : ℕ) → After m (eqb m SGAI || (eqb m SOFS || (eqb m SMIN || (eqb m SMAX || false)))) (systemAt s m) (systemAt (systemWith n z s) m)
-  unfolding systemAt systemWith
+  system-after : (s : System) (m : ℕ) → After m (eqb m SGAI || (eqb m SOFS || (eqb m SMIN || (eqb m SMAX || false)))) (systemFigure s m) (systemFigure (systemWith n z s) m)
+  unfolding systemFigure systemWith
   system-after s m = key m SGAI (s .sgai) (key m SOFS (s .sofs) (key m SMIN (s .smin) (key m SMAX (s .smax) (none m))))
 
-  filter-after : (f : Filter) (m : ℕ) → After m (eqb m FFLV || (eqb m FFST || false)) (filterAt f m) (filterAt (filterWith n z f) m)
-  unfolding filterAt filterWith
+  filter-after : (f : Filter) (m : ℕ) → After m (eqb m FFLV || (eqb m FFST || false)) (filterFigure f m) (filterFigure (filterWith n z f) m)
+  unfolding filterFigure filterWith
   filter-after f m = key m FFLV (f .fflv) (key m FFST (f .ffst) (none m))
 
   -- a count
@@ -102,8 +102,8 @@ module _ (n : ℕ) (z : ℤ) where
       ap field (at f nil l 0 (m - base) long) ∙ is (0 + (m - base)) v ∙ ap (λ (i : ℕ). put n z i (field v)) (back base m h)
 
   linearity-after : (l : Linearity) → length (l .points) ≡ 7 → Counts n z → (m : ℕ)
-      → After m (eqb m CLN || (among CLX (CLX + 6) m || (among CLK (CLK + 6) m || false))) (linearityAt l m) (linearityAt (linearityWith n z l) m)
-  unfolding linearityAt linearityWith linearityPointWith
+      → After m (eqb m CLN || (among CLX (CLX + 6) m || (among CLK (CLK + 6) m || false))) (linearityFigure l m) (linearityFigure (linearityWith n z l) m)
+  unfolding linearityFigure linearityWith linearityPointWith
   linearity-after l long h m =
       rw (count-after CLN (l .cln) (h .clx-count))
       (key m CLN (pos (l .cln))
@@ -112,8 +112,8 @@ module _ (n : ℕ) (z : ℤ) where
       (none m))))
 
   temperature-after : (t : Temperature) → length (t .points) ≡ 5 → Counts n z → (m : ℕ)
-      → After m (eqb m CTN || (among CT (CT + 4) m || (among CTG (CTG + 4) m || (among CTO (CTO + 4) m || false)))) (temperatureAt t m) (temperatureAt (temperatureWith n z t) m)
-  unfolding temperatureAt temperatureWith temperaturePointWith
+      → After m (eqb m CTN || (among CT (CT + 4) m || (among CTG (CTG + 4) m || (among CTO (CTO + 4) m || false)))) (temperatureFigure t m) (temperatureFigure (temperatureWith n z t) m)
+  unfolding temperatureFigure temperatureWith temperaturePointWith
   temperature-after t long h m =
       rw (count-after CTN (t .ctn) (h .ct-count))
       (key m CTN (pos (t .ctn))

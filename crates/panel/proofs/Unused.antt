@@ -27,7 +27,7 @@ use Rattle.register.specs.Number.{CGAI, COFS, CMIN, CMAX, CLN, CLX, CLK, SGAI, 
 use Rattle.register.specs.declared.Access.{Access}
 use Rattle.register.specs.Register.{accessOf, rangeIn, rangeOf, steps, parts}
 use Rattle.register.proofs.Registers.{in-range}
-use Rattle.panel.specs.Figure.{among, cellAt, linearityAt, systemAt, filterAt, temperatureAt, figureAt, temperatureUsed, linearityUsed, InRange}
+use Rattle.panel.specs.Figure.{among, cellFigure, linearityFigure, systemFigure, filterFigure, temperatureFigure, figureAt, temperatureUsed, linearityUsed, InRange}
 
 -- ---- one column of a table
 
@@ -72,30 +72,30 @@ of-run : (m most : ℕ) (v : ℤ) (a : Access) → a ≡ accessOf m → natAbs (
 unfolding rangeOf
 of-run m most v a e q h = rw (sym e, q) h
 
-cell-in : (c : Cell) → CellAcceptable c → (m : ℕ) → In m (cellAt c m)
-unfolding cellAt rangeOf accessOf
+cell-in : (c : Cell) → CellAcceptable c → (m : ℕ) → In m (cellFigure c m)
+unfolding cellFigure rangeOf accessOf
 cell-in c h m = key m CGAI _ _ (h .cgai-in) (key m COFS _ _ (h .cofs-in) (key m CMIN _ _ (h .cmin-in) (key m CMAX _ _ (h .cmax-in) (none-in m))))
 
-system-in : (s : System) → SystemAcceptable s → (m : ℕ) → In m (systemAt s m)
-unfolding systemAt rangeOf accessOf
+system-in : (s : System) → SystemAcceptable s → (m : ℕ) → In m (systemFigure s m)
+unfolding systemFigure rangeOf accessOf
 system-in s h m = key m SGAI _ _ (h .sgai-in) (key m SOFS _ _ (h .sofs-in) (key m SMIN _ _ (h .smin-in) (key m SMAX _ _ (h .smax-in) (none-in m))))
 
-filter-in : (f : Filter) → FilterAcceptable f → (m : ℕ) → In m (filterAt f m)
-unfolding filterAt rangeOf accessOf
+filter-in : (f : Filter) → FilterAcceptable f → (m : ℕ) → In m (filterFigure f m)
+unfolding filterFigure rangeOf accessOf
 filter-in f h m =
     key m FFLV _ _ (within-between (record { abs = lit≤ tt }) (record { abs = lit≤ tt }) (h .fflv-least) (h .fflv-most))
     (key m FFST _ _ (within-between (record { abs = lit≤ tt }) (record { abs = lit≤ tt }) (h .ffst-least) (h .ffst-most)) (none-in m))
 
-linearity-in : (l : Linearity) → LinearityAcceptable l → (m : ℕ) → In m (linearityAt (linearityUsed l) m)
-unfolding linearityAt rangeOf accessOf linearities
+linearity-in : (l : Linearity) → LinearityAcceptable l → (m : ℕ) → In m (linearityFigure (linearityUsed l) m)
+unfolding linearityFigure rangeOf accessOf linearities
 linearity-in l h m =
     key m CLN _ _ (record { abs = h .most })
     (keys m CLX (CLX + 6) _ _ (λ a b. of-run m clxMost _ (steps clxMost) (in-range (λ i. false) (steps clxMost) 7 CLX tt m a (omega arith) refl) refl (column-in noLinearity linearityRow (λ p. p .clx) 0 (λ p. refl) refl clxMost (l .cln) (l .points) (h .clx-in) (m - CLX)))
     (keys m CLK (CLK + 6) _ _ (λ a b. of-run m clkMost _ (steps clkMost) (in-range (λ i. false) (steps clkMost) 7 CLK tt m a (omega arith) refl) refl (column-in noLinearity linearityRow (λ p. p .clk) 1 (λ p. refl) refl clkMost (l .cln) (l .points) (h .clk-in) (m - CLK)))
     (none-in m)))
 
-temperature-in : (t : Temperature) → TemperatureAcceptable t → (m : ℕ) → In m (temperatureAt (temperatureUsed t) m)
-unfolding temperatureAt rangeOf accessOf temperatures
+temperature-in : (t : Temperature) → TemperatureAcceptable t → (m : ℕ) → In m (temperatureFigure (temperatureUsed t) m)
+unfolding temperatureFigure rangeOf accessOf temperatures
 temperature-in t h m =
     key m CTN _ _ (record { abs = h .most })
     (keys m CT (CT + 4) _ _ (λ a b. of-run m ctMost _ (steps ctMost) (in-range (λ i. false) (steps ctMost) 5 CT tt m a (omega arith) refl) refl (column-in noTemperature temperatureRow (λ p. p .ct) 0 (λ p. refl) refl ctMost (t .ctn) (t .points) (h .ct-in) (m - CT)))

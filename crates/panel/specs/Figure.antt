@@ -31,24 +31,24 @@ use Rattle.register.specs.Register.{rangeOf}
 abbrev pub among : ℕ → ℕ → ℕ → Bool
 among first last n = leb first n && leb n last
 
-unfoldable pub cellAt : Cell → ℕ → ℤ
-cellAt c n = cond (eqb n CGAI) (c .cgai) (cond (eqb n COFS) (c .cofs) (cond (eqb n CMIN) (c .cmin) (cond (eqb n CMAX) (c .cmax) (pos 0))))
+unfoldable pub cellFigure : Cell → ℕ → ℤ
+cellFigure c n = cond (eqb n CGAI) (c .cgai) (cond (eqb n COFS) (c .cofs) (cond (eqb n CMIN) (c .cmin) (cond (eqb n CMAX) (c .cmax) (pos 0))))
 
-unfoldable pub linearityAt : Linearity → ℕ → ℤ
-linearityAt l n =
+unfoldable pub linearityFigure : Linearity → ℕ → ℤ
+linearityFigure l n =
     cond (eqb n CLN) (pos (l .cln))
     (cond (among CLX (CLX + 6) n) (getD (l .points) (n - CLX) noLinearity .clx)
     (cond (among CLK (CLK + 6) n) (getD (l .points) (n - CLK) noLinearity .clk)
     (pos 0)))
 
-unfoldable pub systemAt : System → ℕ → ℤ
-systemAt s n = cond (eqb n SGAI) (s .sgai) (cond (eqb n SOFS) (s .sofs) (cond (eqb n SMIN) (s .smin) (cond (eqb n SMAX) (s .smax) (pos 0))))
+unfoldable pub systemFigure : System → ℕ → ℤ
+systemFigure s n = cond (eqb n SGAI) (s .sgai) (cond (eqb n SOFS) (s .sofs) (cond (eqb n SMIN) (s .smin) (cond (eqb n SMAX) (s .smax) (pos 0))))
 
-unfoldable pub filterAt : Filter → ℕ → ℤ
-filterAt f n = cond (eqb n FFLV) (f .fflv) (cond (eqb n FFST) (f .ffst) (pos 0))
+unfoldable pub filterFigure : Filter → ℕ → ℤ
+filterFigure f n = cond (eqb n FFLV) (f .fflv) (cond (eqb n FFST) (f .ffst) (pos 0))
 
-unfoldable pub temperatureAt : Temperature → ℕ → ℤ
-temperatureAt t n =
+unfoldable pub temperatureFigure : Temperature → ℕ → ℤ
+temperatureFigure t n =
     cond (eqb n CTN) (pos (t .ctn))
     (cond (among CT (CT + 4) n) (getD (t .points) (n - CT) noTemperature .ct)
     (cond (among CTG (CTG + 4) n) (getD (t .points) (n - CTG) noTemperature .ctg)
@@ -57,11 +57,11 @@ temperatureAt t n =
 
 unfoldable pub figureAt : Calibration → ℕ → ℤ
 figureAt c n =
-    cond (ltb n CLN) (cellAt (c .cell) n)
-    (cond (ltb n SGAI) (linearityAt (c .linearity) n)
-    (cond (ltb n FFLV) (systemAt (c .system) n)
-    (cond (ltb n CTN) (filterAt (c .filter) n)
-    (temperatureAt (c .temperature) n))))
+    cond (ltb n CLN) (cellFigure (c .cell) n)
+    (cond (ltb n SGAI) (linearityFigure (c .linearity) n)
+    (cond (ltb n FFLV) (systemFigure (c .system) n)
+    (cond (ltb n CTN) (filterFigure (c .filter) n)
+    (temperatureFigure (c .temperature) n))))
 
 -- is a register that of a figure?
 unfoldable pub isFigure : ℕ → Bool

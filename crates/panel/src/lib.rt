@@ -6,7 +6,7 @@ ghost use Rattle.integers.specs.Within.{_within_};
 ghost use Rattle.figures.specs.Default.{noTemperature, noLinearity};
 ghost use Rattle.figures.specs.Unused.{used, unusedZero};
 ghost use Rattle.register.specs.Register.{rangeOf};
-ghost use Rattle.panel.specs.Figure.{cellAt, linearityAt, systemAt, filterAt, temperatureAt, figureAt, isFigure, figureFloat};
+ghost use Rattle.panel.specs.Figure.{cellFigure, linearityFigure, systemFigure, filterFigure, temperatureFigure, figureAt, isFigure, figureFloat};
 ghost use Rattle.panel.specs.Figure.{put as putIn, numbered, cellWith, systemWith, filterWith, temperaturePointWith, temperatureWith};
 ghost use Rattle.panel.specs.Figure.{linearityPointWith, linearityWith, withFigure, written, Counts, usedAt, temperatureUsed, linearityUsed};
 use figures::Calibration;
@@ -18,8 +18,8 @@ use figures::System;
 use figures::Temperature;
 use figures::TemperaturePoint;
 
-fn cell_at(c: Cell, register: u32) -> i64
-    ensures { λ z. ⌜ z ≡ cellAt c register ⌝ }
+fn cell_figure(c: Cell, register: u32) -> i64
+    ensures { λ z. ⌜ z ≡ cellFigure c register ⌝ }
 {
     match register {
         register::CGAI => c.cgai,
@@ -30,8 +30,8 @@ fn cell_at(c: Cell, register: u32) -> i64
     }
 }
 
-fn linearity_at(l: Linearity, register: u32) -> i64
-    ensures { λ z. ⌜ z ≡ linearityAt l register ⌝ }
+fn linearity_figure(l: Linearity, register: u32) -> i64
+    ensures { λ z. ⌜ z ≡ linearityFigure l register ⌝ }
 {
     let points = l.points;
     match register {
@@ -48,8 +48,8 @@ fn linearity_at(l: Linearity, register: u32) -> i64
     }
 }
 
-fn system_at(s: System, register: u32) -> i64
-    ensures { λ z. ⌜ z ≡ systemAt s register ⌝ }
+fn system_figure(s: System, register: u32) -> i64
+    ensures { λ z. ⌜ z ≡ systemFigure s register ⌝ }
 {
     match register {
         register::SGAI => s.sgai,
@@ -60,8 +60,8 @@ fn system_at(s: System, register: u32) -> i64
     }
 }
 
-fn filter_at(f: Filter, register: u32) -> i64
-    ensures { λ z. ⌜ z ≡ filterAt f register ⌝ }
+fn filter_figure(f: Filter, register: u32) -> i64
+    ensures { λ z. ⌜ z ≡ filterFigure f register ⌝ }
 {
     match register {
         register::FFLV => f.fflv,
@@ -70,8 +70,8 @@ fn filter_at(f: Filter, register: u32) -> i64
     }
 }
 
-fn temperature_at(t: Temperature, register: u32) -> i64
-    ensures { λ z. ⌜ z ≡ temperatureAt t register ⌝ }
+fn temperature_figure(t: Temperature, register: u32) -> i64
+    ensures { λ z. ⌜ z ≡ temperatureFigure t register ⌝ }
 {
     let points = t.points;
     match register {
@@ -97,18 +97,18 @@ fn figure_at(c: Calibration, register: u32) -> i64
     ensures { λ z. ⌜ z ≡ figureAt c register ⌝ }
 {
     if register < register::CLN {
-        return cell_at(c.cell, register);
+        return cell_figure(c.cell, register);
     }
     if register < register::SGAI {
-        return linearity_at(c.linearity, register);
+        return linearity_figure(c.linearity, register);
     }
     if register < register::FFLV {
-        return system_at(c.system, register);
+        return system_figure(c.system, register);
     }
     if register < register::CTN {
-        return filter_at(c.filter, register);
+        return filter_figure(c.filter, register);
     }
-    temperature_at(c.temperature, register)
+    temperature_figure(c.temperature, register)
 }
 
 // Is it a figure's register?

@@ -38,19 +38,19 @@ peakAfter r v = cond (r .any) (larger (r .peak) (v .sys)) (v .sys)
 unfoldable pub trofAfter : Readings → Values → ℤ
 trofAfter r v = cond (r .any) (smaller (r .trof) (v .sys)) (v .sys)
 
-unfoldable pub joined : Readings → ℤ → ℤ → Values → Readings
-joined r elec temp v = record { any = true; elec = elec; temp = temp; values = v; peak = peakAfter r v; trof = trofAfter r v }
+unfoldable pub readingsAfter : Readings → ℤ → ℤ → Values → Readings
+readingsAfter r elec temp v = record { any = true; elec = elec; temp = temp; values = v; peak = peakAfter r v; trof = trofAfter r v }
 
 -- 1. the held value; without a reading this is the first
 abbrev pub heldAfter : Calibration → Readings → ℤ → ℤ
 heldAfter c r elec = filtered (c .filter) (not (r .any)) (r .elec) elec
 
 -- 6, by the values of the reading; "A reading raises its STAT bits in FLAG"
-unfoldable pub takenWith : State → ℤ → ℤ → Values → State
-takenWith s elec temp v = record { readings = joined (s .readings) elec temp v; flag = bitOr (s .flag) (v .stat); snapshot = s .snapshot }
+unfoldable pub stateAfterValues : State → ℤ → ℤ → Values → State
+stateAfterValues s elec temp v = record { readings = readingsAfter (s .readings) elec temp v; flag = bitOr (s .flag) (v .stat); snapshot = s .snapshot }
 
 -- 1 to 6, by the figures c in force
-unfoldable pub taken : Calibration → State → ℤ → ℤ → ℕ → State
-taken c s elec temp integrity =
+unfoldable pub stateAfterReading : Calibration → State → ℤ → ℤ → ℕ → State
+stateAfterReading c s elec temp integrity =
     let held : ℤ = heldAfter c (s .readings) elec in
-    takenWith s held temp (valuesOf c held temp integrity)
+    stateAfterValues s held temp (valuesOf c held temp integrity)

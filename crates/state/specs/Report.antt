@@ -5,13 +5,13 @@ use Rattle.state.specs.declared.Readings.{Readings}
 use Rattle.state.specs.declared.reporting.Report.{Report}
 use Rattle.state.specs.declared.reporting.Reported.{Reported}
 
-abbrev pub reportOf : Readings → Report
-reportOf r = record { sys = stepFloat (r .values .sys); peak = stepFloat (r .peak); trof = stepFloat (r .trof); cell = stepFloat (r .values .cell) }
+abbrev pub floatsOf : Readings → Report
+floatsOf r = record { sys = stepFloat (r .values .sys); peak = stepFloat (r .peak); trof = stepFloat (r .trof); cell = stepFloat (r .values .cell) }
 
 -- "Beside a refusal each value .. is 0"
 abbrev pub noReport : Report
 noReport = record { sys = wholeFloat 0; peak = wholeFloat 0; trof = wholeFloat 0; cell = wholeFloat 0 }
 
 -- 10: a "report .. before the first reading since start or RST"
-unfoldable pub reported : Readings → Reported
-reported r = cond (r .any) (record { number = 0; report = reportOf r }) (record { number = 10; report = noReport })
+unfoldable pub reportOf : Readings → Reported
+reportOf r = cond (r .any) (record { number = 0; report = floatsOf r }) (record { number = 10; report = noReport })

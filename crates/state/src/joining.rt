@@ -3,7 +3,7 @@ ghost use mathlib.Core.Path.{_≡_};
 ghost use mathlib.Core.Bool.{not};
 ghost use Rattle.compensation.specs.Filter.{filtered};
 ghost use Rattle.compensation.specs.ForCode.{FilterInput};
-ghost use Rattle.state.specs.Reading.{outside, badReading, larger, smaller, peakAfter, trofAfter, joined, takenWith};
+ghost use Rattle.state.specs.Reading.{outside, badReading, larger, smaller, peakAfter, trofAfter, readingsAfter, stateAfterValues};
 use crate::Readings;
 use crate::State;
 use compensation::Values;
@@ -77,7 +77,7 @@ fn trof_after(r: Readings, v: Values) -> i64
 }
 
 fn join(r: Readings, elec: i64, temp: i64, v: Values) -> Readings
-    ensures { λ n. ⌜ n ≡ joined r elec temp v ⌝ }
+    ensures { λ n. ⌜ n ≡ readingsAfter r elec temp v ⌝ }
 {
     let peak = peak_after(r, v);
     let trof = trof_after(r, v);
@@ -101,7 +101,7 @@ pub fn held_after(filter: Filter, before: Readings, elec: i64) -> i64
 
 // What a reading makes of the state, by the held value, TEMP and its values.
 pub fn take(state: State, elec: i64, temp: i64, values: Values) -> State
-    ensures { λ n. ⌜ n ≡ takenWith state elec temp values ⌝ }
+    ensures { λ n. ⌜ n ≡ stateAfterValues state elec temp values ⌝ }
 {
     let readings = join(state.readings, elec, temp, values);
     let mut next = state;

@@ -11,7 +11,7 @@ pub use reporting::Report;
 pub use reporting::Reported;
 pub use reporting::report_of;
 pub use requests::fresh;
-pub use requests::state_after;
+pub use requests::state_by;
 
 // What the readings since the start or RST left: whether there is one; of the last, ELEC as the filter holds it, TEMP and its
 // values; PEAK and TROF.

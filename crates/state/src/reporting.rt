@@ -1,7 +1,7 @@
 // The report (01, "The reading").
 ghost use mathlib.Core.Path.{_≡_};
 ghost use Rattle.state.specs.Within.{ReadingsWithin};
-ghost use Rattle.state.specs.Report.{reportOf, reported};
+ghost use Rattle.state.specs.Report.{floatsOf, reportOf};
 use crate::Readings;
 use binary32::sent::float_of_steps;
 
@@ -21,7 +21,7 @@ pub struct Reported {
 
 fn floats_of(r: Readings) -> Report
     requires { ⌜ ReadingsWithin r ⌝ }
-    ensures { λ x. ⌜ x ≡ reportOf r ⌝ }
+    ensures { λ x. ⌜ x ≡ floatsOf r ⌝ }
 {
     let v = r.values;
     let sys = float_of_steps(v.sys);
@@ -39,7 +39,7 @@ fn floats_of(r: Readings) -> Report
 // SYS, PEAK, TROF and CELL, and 0; before the first reading 10, and zeros.
 pub fn report_of(r: Readings) -> Reported
     requires { ⌜ ReadingsWithin r ⌝ }
-    ensures { λ x. ⌜ x ≡ reported r ⌝ }
+    ensures { λ x. ⌜ x ≡ reportOf r ⌝ }
 {
     if r.any {
         let report = floats_of(r);

@@ -105,7 +105,7 @@ fn write(state: State, register: u32, x: f32) -> State
     next
 }
 
-pub fn state_after(state: State, frame: Frame) -> State
+pub fn state_by(state: State, frame: Frame) -> State
     ensures { λ n. ⌜ n ≡ stateBy state frame ⌝ }
 {
     match frame {

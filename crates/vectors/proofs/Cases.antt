@@ -9,11 +9,11 @@ use Rattle.binary32.specs.Received.{takes, nearest, counted, Computable}
 use Rattle.binary32.specs.declared.received.Range.{Range}
 use Rattle.binary32.specs.Sent.{countFloat}
 use Rattle.binary32.specs.Wire.{wireBytes}
-use Rattle.checksum.specs.Checksum.{taken, framed}
+use Rattle.checksum.specs.Checksum.{withByte, framed}
 use Rattle.register.specs.Register.{accessOf, rangeOf}
 use Rattle.register.proofs.Registers.{range-computable}
 use Rattle.modbus.specs.Frame.{checked, toUs, forUs, accessAsked, readAsked, writeOf, writeAsked, judged}
-use Rattle.modbus.specs.Reply.{silent, answer, writeReply, exceptionCode, exceptionReply, Replied}
+use Rattle.modbus.specs.Reply.{silent, unlessSilent, writeReply, exceptionCode, exceptionReply, Replied}
 
 -- What a case computes with: to unfold one of these is to unfold all that its line names.
 
@@ -22,11 +22,11 @@ unfolding ofBits toBits div neg round wireBytes countFloat takes nearest counted
 floats = tt
 
 unfoldable pub frames : Unit {0}
-unfolding floats taken checked toUs forUs accessAsked readAsked writeOf writeAsked judged
+unfolding floats withByte checked toUs forUs accessAsked readAsked writeOf writeAsked judged
 frames = tt
 
 unfoldable pub replies : Unit {0}
-unfolding floats taken framed silent answer writeReply exceptionCode exceptionReply
+unfolding floats withByte framed silent unlessSilent writeReply exceptionCode exceptionReply
 replies = tt
 
 -- Two facts by each, and a reply by its parts, for `search`, which makes no pair and no record of so large a goal.

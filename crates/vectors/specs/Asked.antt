@@ -6,11 +6,11 @@ use Rattle.modbus.specs.declared.frame.Frame.{Frame}
 use Rattle.modbus.specs.declared.frame.Frame.the-variants.{Refused, Read, Write, Act}
 
 -- the number of a refusal; else the register, with what is done to it
-unfoldable pub numberOf : Frame → ℕ
-numberOf (Refused n) = n
-numberOf (Read r) = 0x1_0000_0000 + r
-numberOf (Write r x) = 0x2_0000_0000 + r
-numberOf (Act r) = 0x3_0000_0000 + r
+unfoldable pub askedNumber : Frame → ℕ
+askedNumber (Refused n) = n
+askedNumber (Read r) = 0x1_0000_0000 + r
+askedNumber (Write r x) = 0x2_0000_0000 + r
+askedNumber (Act r) = 0x3_0000_0000 + r
 
 -- the four bytes of a write's float; else 0
 unfoldable pub floatOf : Frame → ℕ

@@ -2,13 +2,13 @@
 ghost use mathlib.Core.Path.{_≡_};
 ghost use Rattle.modbus.specs.Frame.{judged};
 ghost use Rattle.modbus.specs.declared.frame.Frame.the-variants.{Refused};
-ghost use Rattle.vectors.specs.Asked.{numberOf, floatOf};
+ghost use Rattle.vectors.specs.Asked.{askedNumber, floatOf};
 use crate::checksums;
 use modbus::frame::Frame;
 
 // The number of a refusal; else the register, with what is done to it.
-fn number_of(asked: Frame) -> u64
-    ensures { λ r. ⌜ r ≡ numberOf asked ⌝ }
+fn asked_number(asked: Frame) -> u64
+    ensures { λ r. ⌜ r ≡ askedNumber asked ⌝ }
 {
     match asked {
         Frame::Refused(number) => number as u64,
@@ -33,7 +33,7 @@ fn asks(frame: &[u8], room: usize, station: u8, expected: Frame)
     requires { ⌜ judged (now frame) room station ≡ expected ⌝ }
 {
     let asked = modbus::frame::judge(frame, room, station);
-    check::expect(number_of(asked) == number_of(expected));
+    check::expect(asked_number(asked) == asked_number(expected));
     check::expect(float_of(asked) == float_of(expected));
 }
 

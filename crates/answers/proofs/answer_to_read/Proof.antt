@@ -9,7 +9,7 @@ use Rattle.modbus.specs.declared.frame.Frame.{Frame}
 use Rattle.modbus.specs.declared.frame.Frame.the-variants.{Refused, Read, Write, Act}
 use Rattle.modbus.proofs.frame.Frame as F
 use Rattle.answers.specs.Parts.{isRead}
-use Rattle.answers.specs.Register.{registerAt, answered}
+use Rattle.answers.specs.Register.{registerAt, answerOf}
 use Rattle.state.proofs.Within.{kept, kept-within}
 use borrow.Author.Needs.{needs}
 use Rattle.answers.proofs.answer_to_read.Statement.{statement}
@@ -26,11 +26,11 @@ register-at-requires : tie.Need-register-at-requires
 register-at-requires c κs = let p = c .before .before .before .before .before .before .pre .1 in record { readings-in = p .readings-in; sysn-in = p .sysn-in; sz-in = kept-within (p .sz-in); copy-in = p .copy-in }
 
 returns : tie.Need-returns
-unfolding answered
+unfolding answerOf
 returns c =
     let s = c .before .before .before .before .before .before .before in
     let r = c .before .before .before .before .before .frame .given in
-    c .register-at .ensures ∙ ap (λ (z : ℤ). registerAt (s .args .state) z (s .args .setup .copy) (r .0 .0)) (kept (s .pre .1 .sz-in)) ∙ sym (ap (answered (s .args .state) (s .args .setup)) (r .1))
+    c .register-at .ensures ∙ ap (λ (z : ℤ). registerAt (s .args .state) z (s .args .setup .copy) (r .0 .0)) (kept (s .pre .1 .sz-in)) ∙ sym (ap (answerOf (s .args .state) (s .args .setup)) (r .1))
 
 returns-2 : tie.Need-returns-2
 returns-2 c = absurd (none (c .before .args .frame) (c .before .pre .0) (c .match .keys2))

@@ -6,7 +6,7 @@ use denote.Struct.Laws as LL
 use Rattle.modbus.specs.Frame.{judged}
 use Rattle.modbus.specs.declared.frame.Frame.{Frame}
 use Rattle.modbus.proofs.frame.Frame.Laws as R′
-use Rattle.answers.specs.Register.{answered}
+use Rattle.answers.specs.Register.{answerOf}
 use Rattle.answers.specs.Parts.{isRead, obeys, refusalOf}
 use Rattle.answers.specs.declared.Answer.{Answer}
 use Rattle.answers.specs.declared.Answer.the-variants.{Done, Refused}
@@ -14,7 +14,7 @@ use Rattle.answers.proofs.Answers.{answer-obeyed, answer-refused}
 use Rattle.in_force.proofs.Setup.Laws as U′
 use Rattle.state.proofs.State.Laws as S′
 use Rattle.converter.specs.Call.{obeyed}
-use Rattle.converter.specs.Reached.{Reached, Answering, Serving}
+use Rattle.converter.specs.Reached.{Reached, Delivers, Serving}
 use Rattle.converter.specs.declared.Device.{Device}
 use Rattle.converter.specs.declared.bus.Answered.{Answered}
 use Rattle.converter.proofs.Entries.{read-unobeyed, serves}
@@ -94,7 +94,7 @@ module _ {M : Type 1} (𝓤 : URA M) (H : Heap 𝓤) (A : Atoms 𝓤) (W : Given
         move ! (0 ∷ 2 ∷ []) $ join ! $ move ! (0 ∷ 1 ∷ 6 ∷ []) $ group ! 3 $
         -- [what `answer` asks; the record's cell; the open borrow; obs; auth; true; _17; …]
         calls-out ! fm answer (known-of .1 .1 .0) (to-answer 𝓤 H A κ₁ κ₂ q₁ q₂ xf xr h a va) tt (answer-asks 𝓤 H A W at-mem run κ₁ κ₂ q₁ q₂ xf xr h a va read reached was a-is)
-        (λ r zs. Answering (answered (h .state) (h .setup) a) (xf .now) (xr .now) (zs .1 .1 .1 .1 .0) r) (λ r zs. id⊢ 𝓤 _) (local ! 24 refl (local ! 22 refl (local ! 32 refl (local ! 36 refl (local ! 18 refl (no-more !)))))) 39 refl refl (λ w r zs e r-is.
+        (λ r zs. Delivers (answerOf (h .state) (h .setup) a) (xf .now) (xr .now) (zs .1 .1 .1 .1 .0) r) (λ r zs. id⊢ 𝓤 _) (local ! 24 refl (local ! 22 refl (local ! 32 refl (local ! 36 refl (local ! 18 refl (no-more !)))))) 39 refl refl (λ w r zs e r-is.
         -- of the last values only the reply's says anything: its list, and that it is as long as the one lent
         fsplit ! $ drop ! $ fsplit ! $ drop ! $ fsplit ! $ drop ! $ fsplit ! $ drop ! $ fsplit ! $ fsplit ! $ move ! (1 ∷ []) $ feqL ! (λ l. move ! (2 ∷ []) $
         -- [the other tokens; the last list; true; the record's cell; the open borrow; obs; auth; true; _17; …]
@@ -112,7 +112,7 @@ module _ {M : Type 1} (𝓤 : URA M) (H : Heap 𝓤) (A : Atoms 𝓤) (W : Given
         assigns ! (agg ! (and-then ! (load ! (from ! (stop !)) (look ! 13 refl)) (and-then ! (load ! (from ! (fld ! refl (stop !))) (look-in ! 35 (sub ! 1 refl (whole !)))) (no-more !)))) (from ! (stop !)) (init ! 11 refl (tt, (tt, (record { fits = room-r .0 }, tt)))) $
         move ! (2 ∷ 4 ∷ []) $ join ! $ move ! (0 ∷ 3 ∷ 4 ∷ []) $ group ! 3 $
         -- [what `acknowledge` asks; the record's last value; its token; true; _17; …]
-        calls-out ! fm acknowledge (known-of .1 .1 .1 .1 .0) (to-acknowledge 𝓤 H A κ₁ κ₂ q₁ q₂ xf xr) tt (acknowledge-asks 𝓤 H A W at-mem run κ₁ κ₂ q₁ q₂ xf xr) (λ r zs. Answering Done (xf .now) (xr .now) (zs .1 .0) r) (λ r zs. id⊢ 𝓤 _)
+        calls-out ! fm acknowledge (known-of .1 .1 .1 .1 .0) (to-acknowledge 𝓤 H A κ₁ κ₂ q₁ q₂ xf xr) tt (acknowledge-asks 𝓤 H A W at-mem run κ₁ κ₂ q₁ q₂ xf xr) (λ r zs. Delivers Done (xf .now) (xr .now) (zs .1 .0) r) (λ r zs. id⊢ 𝓤 _)
         (local ! 34 refl (local ! 8 refl (no-more !))) 37 refl refl (λ w r zs e r-is. fsplit ! $ drop ! $ fsplit ! $ fsplit ! $ move ! (1 ∷ []) $ feqL ! (λ l. move ! (2 ∷ []) $
         -- [the other tokens; the last list; true; the record's last value; its token; true; _17; …]
         returns-within ! Post refl (look ! 40 refl) $ frees-all ! 6 (some _ ∷ some _ ∷ some _ ∷ some _ ∷ some _ ∷ some _ ∷ some _ ∷ some _ ∷ none ∷ none ∷ none ∷ none ∷ some _ ∷ some _ ∷ some _ ∷ some _ ∷ []) refl $
@@ -122,7 +122,7 @@ module _ {M : Type 1} (𝓤 : URA M) (H : Heap 𝓤) (A : Atoms 𝓤) (W : Given
         assigns ! (agg ! (and-then ! (load ! (from ! (stop !)) (look ! 9 refl)) (and-then ! (load ! (from ! (fld ! refl (stop !))) (look-in ! 35 (sub ! 1 refl (whole !)))) (no-more !)))) (from ! (stop !)) (init ! 7 refl (tt, (tt, (record { fits = room-r .0 }, tt)))) $
         move ! (2 ∷ 4 ∷ []) $ join ! $ move ! (0 ∷ 3 ∷ 4 ∷ []) $ group ! 3 $
         -- [what `refuse` asks; the record's last value; its token; true; _17; …]
-        calls-out ! fm refuse (known-of .1 .1 .1 .1 .1 .0) (to-refuse 𝓤 H A κ₁ κ₂ q₁ q₂ xf xr a va) tt (refuse-asks 𝓤 H A W at-mem run κ₁ κ₂ q₁ q₂ xf xr a va a-is) (λ r zs. Answering (Refused (refusalOf a)) (xf .now) (xr .now) (zs .1 .1 .0) r) (λ r zs. id⊢ 𝓤 _)
+        calls-out ! fm refuse (known-of .1 .1 .1 .1 .1 .0) (to-refuse 𝓤 H A κ₁ κ₂ q₁ q₂ xf xr a va) tt (refuse-asks 𝓤 H A W at-mem run κ₁ κ₂ q₁ q₂ xf xr a va a-is) (λ r zs. Delivers (Refused (refusalOf a)) (xf .now) (xr .now) (zs .1 .1 .0) r) (λ r zs. id⊢ 𝓤 _)
         (local ! 30 refl (local ! 34 refl (local ! 4 refl (no-more !)))) 37 refl refl (λ w r zs e r-is. fsplit ! $ drop ! $ fsplit ! $ drop ! $ fsplit ! $ fsplit ! $ move ! (1 ∷ []) $ feqL ! (λ l. move ! (2 ∷ []) $
         returns ! (look ! 40 refl) $ frees-all ! 6 (some _ ∷ some _ ∷ some _ ∷ some _ ∷ some _ ∷ some _ ∷ some _ ∷ some _ ∷ none ∷ none ∷ none ∷ none ∷ some _ ∷ some _ ∷ none ∷ none ∷ some _ ∷ some _ ∷ []) refl $
         keep ! (3 ∷ 4 ∷ 0 ∷ 1 ∷ []) $ by ! (exits r w (ds .0) (zs .1 .1 .0) r-is (serves reached (xf .now) (xr .now) (zs .1 .1 .0) asked (answer-refused (h .state) (h .setup) a no-read not-so) e (told .1)) l)))))))))))))))))))))))))))

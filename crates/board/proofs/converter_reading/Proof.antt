@@ -11,7 +11,7 @@ use Rattle.compensation.specs.ForCode.{inputAt, cellValuesAt, valuesFrom}
 use Rattle.compensation.proofs.steps.Input.Laws as P′
 use Rattle.compensation.proofs.steps.CellValues.Laws as K′
 use Rattle.compensation.proofs.steps.Values.Laws as E′
-use Rattle.state.specs.Reading.{badReading, heldAfter, takenWith}
+use Rattle.state.specs.Reading.{badReading, heldAfter, stateAfterValues}
 use Rattle.state.proofs.Readings.Laws as G′
 use Rattle.state.proofs.State.Laws as S′
 use Rattle.converter.specs.Reached.{Reached, Reading}
@@ -100,7 +100,7 @@ module _ {M : Type 1} (𝓤 : URA M) (H : Heap 𝓤) (A : Atoms 𝓤) (W : Given
         (local ! 14 refl (local ! 10 refl (local ! 26 refl (local ! 30 refl (local ! 34 refl (local ! 32 refl (no-more !))))))) 23 refl refl (λ vw w w-is w-fits.
         copies ! 0 refl (state-in h ! was) (look ! 37 refl) (init ! 5 refl) $
         calls-plain ! fm take (known-of .1 .1 .1 .1 .1 .0) (tt, tt, tt, (h .state, (k, (t, (w, tt)))), (mach-state (h .state) ∷ [], (vk ∷ [], (number t ∷ [], (vw ∷ [], tt))))) tt (id⊢ 𝓤 _)
-        (state-is h was, (k-fits, (t-is, (w-fits, tt)))) (id⊢ 𝓤 _) (λ r. r ≡ takenWith (h .state) k t w) (λ r e. id⊢ 𝓤 _)
+        (state-is h was, (k-fits, (t-is, (w-fits, tt)))) (id⊢ 𝓤 _) (λ r. r ≡ stateAfterValues (h .state) k t w) (λ r e. id⊢ 𝓤 _)
         (local ! 6 refl (local ! 30 refl (local ! 34 refl (local ! 24 refl (no-more !))))) 7 refl refl (λ vr r r-is state.
         assigns ! (of-opd ! (load ! (from ! (stop !)) (look ! 7 refl))) (from ! (hop ! (look ! 37 refl) (fld ! state-at (stop !)))) (stores-state ! 0 h refl was r state) $
         assigns ! (of-opd ! (lit ! tt)) (from ! (stop !)) (init ! 39 refl (tt, record { fits = lit< tt })) $ closes-record device ! tt (restate h r) (restated h was r state) $

@@ -1,7 +1,7 @@
 -- `board::converter_report` meets its contract: a walk of its MIR, by hand. The borrow is looked into for a copy of the record, and shut again; the copy goes to `Device::report`.
 -- All that the proof knows of `Device::report` is that it meets its contract. Assumes nothing.
 use denote.Struct.Laws as LL
-use Rattle.state.specs.Report.{reported}
+use Rattle.state.specs.Report.{reportOf}
 use Rattle.state.specs.declared.reporting.Reported.{Reported}
 use Rattle.state.proofs.reporting.Reported as S
 use Rattle.state.proofs.reporting.Reported.Laws as S′
@@ -37,7 +37,7 @@ module _ {M : Type 1} (𝓤 : URA M) (H : Heap 𝓤) (A : Atoms 𝓤) (W : Given
   Post = walkOf 𝓤 H A f.ended stayed (f.clauses 𝓤 H A at-mem run) .post (((κ, tt), (q, tt), tt, x, at), tt)
 
   abbrev Said : Reported → Type 0
-  Said r = r ≡ reported (h .state .readings)
+  Said r = r ≡ reportOf (h .state .readings)
 
   exits : (r : Reported) (v : Val) → Is S.the-row r (v ∷ []) → Said r → ent 𝓤 (sep 𝓤 (A .lft κ q) (sep 𝓤 (A .res γ (D.the-row .coded .code h)) (A .shr-bor κ (λ s. partAt D.the-row s h b o)))) (Post v)
   exits r v is e =

@@ -20,7 +20,7 @@ use Rattle.walks.proofs.Walk.{none, some, _≡_, refl, ℕ, [], _∷_, List, �
 use Rattle.walks.proofs.Walk.{by, move, keep, drop, split, join, fsplit, fsplit3, fjoin, fjoin3, feqI, suffices, frame, done, unit-lit, look, init, stop, hop, fld, from, load, of-opd, no-more, assigns, first, returns, enter, alloc1, alloc0, params1, pass1, pass0, Body, FmC, owns, Is, mem}
 use Rattle.walks.proofs.Walk.{RefT, MutRef, ptr-vals, mut-tells, plain, owned, nothing, onEntry, says, needs, Stays, stay-ref, walkOf, AllGo, goes-ref, Walks, ends-at, walked, stay-none, goes-none, yes}
 use Rattle.walks.proofs.Call.{Callee, AllKnown, calls-plain, local}
-use Rattle.board.proofs.Callees.{changes-zero, zero-after, restarts, unused-zero, fresh, changes-state, state-after, copy-after}
+use Rattle.board.proofs.Callees.{changes-zero, zero-by, restarts, unused-zero, fresh, changes-state, state-by, copy-by}
 use Rattle.walks.proofs.Branch.{branches-on, assigns-to}
 use Rattle.walks.proofs.Entered.{walk-entered}
 use Rattle.walks.proofs.Locals.{frees-all}
@@ -37,7 +37,7 @@ abbrev stayed : Stays (f.ended .signature .params) (f.ended .kept)
 stayed = (stay-ref (0 ∷ []) tt (plain (λ _. D.the-row)), (stay-none (λ _. R.the-row) yes, tt))
 
 abbrev callees : List Callee
-callees = changes-zero .callee ∷ zero-after .callee ∷ restarts .callee ∷ unused-zero .callee ∷ fresh .callee ∷ changes-state .callee ∷ state-after .callee ∷ copy-after .callee ∷ []
+callees = changes-zero .callee ∷ zero-by .callee ∷ restarts .callee ∷ unused-zero .callee ∷ fresh .callee ∷ changes-state .callee ∷ state-by .callee ∷ copy-by .callee ∷ []
 
 module _ {M : Type 1} (𝓤 : URA M) (H : Heap 𝓤) (A : Atoms 𝓤) (W : Given 𝓤 H A) (at-mem : Memory → SProp 𝓤) (run : Routine → Fun 𝓤) (κ : Lft) (q : Share) (b o : ℕ) (γ : GName) (h : Device) (a : Frame) (a-is : Is R.the-row a (EL.vals R.the-type R′.the-laws a)) (free : applies a ≡ false) where
   abbrev va : Val
@@ -87,7 +87,7 @@ module _ {M : Type 1} (𝓤 : URA M) (H : Heap 𝓤) (A : Atoms 𝓤) (W : Given
         -- [the record's cell; the open borrow; obs; auth; true; _14; …; _1; …; room for _0; …]
         calls-plain ! fm changes-zero (known-of .0) (tt, tt, tt, (a, tt), (va ∷ [], tt)) tt (id⊢ 𝓤 _) (a-is, tt) (id⊢ 𝓤 _) (λ c. c ≡ changesZero a) (λ c e. id⊢ 𝓤 _) (local ! 30 refl (no-more !)) 27 refl refl (λ vc c zero c-is. first ! $ branches-on ! (look ! 27 refl) c-is zero
         (λ zero. copies ! 0 refl (sz-in h ! was) (look ! 31 refl) (init ! 23 refl) $
-        calls-plain ! fm zero-after (known-of .1 .0) (tt, tt, tt, (sz, (a, tt)), (number sz ∷ [], (va ∷ [], tt))) tt (id⊢ 𝓤 _) (sz-is h was, (a-is, tt)) (id⊢ 𝓤 _) (λ z. z ≡ zeroBy sz a) (λ z e. id⊢ 𝓤 _) (local ! 24 refl (local ! 30 refl (no-more !))) 25 refl refl (λ vz z is z-is.
+        calls-plain ! fm zero-by (known-of .1 .0) (tt, tt, tt, (sz, (a, tt)), (number sz ∷ [], (va ∷ [], tt))) tt (id⊢ 𝓤 _) (sz-is h was, (a-is, tt)) (id⊢ 𝓤 _) (λ z. z ≡ zeroBy sz a) (λ z e. id⊢ 𝓤 _) (local ! 24 refl (local ! 30 refl (no-more !))) 25 refl refl (λ vz z is z-is.
         assigns-to ! t-3 Post (of-opd ! (load ! (from ! (stop !)) (look ! 25 refl))) (from ! (hop ! (look ! 31 refl) (fld ! setup-at (fld ! figures-at (fld ! system-at (fld ! sz-at (stop !))))))) (stores-sz ! 0 h refl was z z-is) $
         assigns ! (of-opd ! (unit-lit !)) (from ! (stop !)) (init ! 33 refl (tt, tt)) $ closes-record device ! tt (rezero h z) (rezeroed h was z z-is) $
         returns ! (look ! 32 refl) $ frees-all ! 4 (some _ ∷ some _ ∷ some _ ∷ some _ ∷ some _ ∷ some _ ∷ []) refl $
@@ -104,14 +104,14 @@ module _ {M : Type 1} (𝓤 : URA M) (H : Heap 𝓤) (A : Atoms 𝓤) (W : Given
         keep ! (0 ∷ 1 ∷ 2 ∷ []) $ by ! (exits (restate (recopy h u) s) (begins rst unused begun)))))
         (λ no-rst. calls-plain ! fm changes-state (known-of .1 .1 .1 .1 .1 .0) (tt, tt, tt, (a, tt), (va ∷ [], tt)) tt (id⊢ 𝓤 _) (a-is, tt) (id⊢ 𝓤 _) (λ e. e ≡ changesState a) (λ e g. id⊢ 𝓤 _) (local ! 30 refl (no-more !)) 13 refl refl (λ ve e turn e-is. branches-on ! (look ! 13 refl) e-is turn
         (λ turn. copies ! 0 refl (state-in h ! was) (look ! 31 refl) (init ! 9 refl) $
-        calls-plain ! fm state-after (known-of .1 .1 .1 .1 .1 .1 .0) (tt, tt, tt, (h .state, (a, tt)), (mach-state (h .state) ∷ [], (va ∷ [], tt))) tt (id⊢ 𝓤 _) (state-is h was, (a-is, tt)) (id⊢ 𝓤 _) (λ s. s ≡ stateBy (h .state) a) (λ s e. id⊢ 𝓤 _)
+        calls-plain ! fm state-by (known-of .1 .1 .1 .1 .1 .1 .0) (tt, tt, tt, (h .state, (a, tt)), (mach-state (h .state) ∷ [], (va ∷ [], tt))) tt (id⊢ 𝓤 _) (state-is h was, (a-is, tt)) (id⊢ 𝓤 _) (λ s. s ≡ stateBy (h .state) a) (λ s e. id⊢ 𝓤 _)
         (local ! 10 refl (local ! 30 refl (no-more !))) 11 refl refl (λ vs s turned s-is.
         assigns-to ! t-3 Post (of-opd ! (load ! (from ! (stop !)) (look ! 11 refl))) (from ! (hop ! (look ! 31 refl) (fld ! state-at (stop !)))) (stores-state ! 0 h refl was s s-is) $
         assigns ! (of-opd ! (unit-lit !)) (from ! (stop !)) (init ! 33 refl (tt, tt)) $ closes-record device ! tt (restate h s) (restated h was s s-is) $
         returns ! (look ! 32 refl) $ frees-all ! 4 (some _ ∷ some _ ∷ some _ ∷ some _ ∷ none ∷ none ∷ some _ ∷ none ∷ none ∷ none ∷ some _ ∷ some _ ∷ some _ ∷ []) refl $
         keep ! (0 ∷ 1 ∷ 2 ∷ []) $ by ! (exits (restate h s) (turns no-rst turn turned))))
         (λ no-turn. copies ! 0 refl (copy-in h ! was) (look ! 31 refl) (init ! 5 refl) $
-        calls-plain ! fm copy-after (known-of .1 .1 .1 .1 .1 .1 .1 .0) (tt, tt, tt, (h .setup .copy, (a, tt)), (mach-figures (h .setup .copy) ∷ [], (va ∷ [], tt))) tt (id⊢ 𝓤 _) (copy-is h was, (a-is, tt)) (id⊢ 𝓤 _) (λ c. c ≡ copyBy (h .setup .copy) a) (λ c e. id⊢ 𝓤 _)
+        calls-plain ! fm copy-by (known-of .1 .1 .1 .1 .1 .1 .1 .0) (tt, tt, tt, (h .setup .copy, (a, tt)), (mach-figures (h .setup .copy) ∷ [], (va ∷ [], tt))) tt (id⊢ 𝓤 _) (copy-is h was, (a-is, tt)) (id⊢ 𝓤 _) (λ c. c ≡ copyBy (h .setup .copy) a) (λ c e. id⊢ 𝓤 _)
         (local ! 6 refl (local ! 30 refl (no-more !))) 7 refl refl (λ vn n next n-is.
         assigns-to ! t-3 Post (of-opd ! (load ! (from ! (stop !)) (look ! 7 refl))) (from ! (hop ! (look ! 31 refl) (fld ! setup-at (fld ! copy-at (stop !))))) (stores-copy ! 0 h refl was n n-is) $
         assigns ! (of-opd ! (unit-lit !)) (from ! (stop !)) (init ! 33 refl (tt, tt)) $ closes-record device ! tt (recopy h n) (recopied h was n n-is) $
@@ -133,5 +133,5 @@ unfolding code.routine
 store-spec 𝓤 H 𝓜 𝓖 𝓡 =
     let W = givenOf 𝓤 H 𝓜 𝓖 in
     walk-entered 𝓤 H 𝓜 𝓖 𝓡 code.env #board·store code.function (code.unfolded 𝓤 H 𝓜 𝓡) callees
-    (code.calls-answers·changes-zero, (code.calls-answers·zero-after, (code.calls-answers·restarts, (code.calls-panel·unused-zero, (code.calls-state·fresh, (code.calls-answers·changes-state, (code.calls-state·state-after, (code.calls-answers·copy-after, tt))))))))
+    (code.calls-answers·changes-zero, (code.calls-answers·zero-by, (code.calls-answers·restarts, (code.calls-panel·unused-zero, (code.calls-state·fresh, (code.calls-answers·changes-state, (code.calls-state·state-by, (code.calls-answers·copy-by, tt))))))))
     f.ended (f.clauses 𝓤 H (𝓖 .A) (𝓜 .mem) (𝓡 .run)) stayed (goes 𝓤 H (𝓖 .A) W (𝓜 .mem) (𝓡 .run)) (walks 𝓤 H (𝓖 .A) W (𝓜 .mem) (𝓡 .run))

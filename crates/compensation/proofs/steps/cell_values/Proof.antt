@@ -7,7 +7,7 @@ use Rattle.integers.proofs.Machine.{stored-is}
 use Rattle.figures.specs.declared.Cell.{Cell}
 use Rattle.figures.specs.declared.Linearity.{Linearity}
 use Rattle.compensation.specs.declared.steps.Input.{Input}
-use Rattle.compensation.specs.ForCode.{yAt, rawCellAt, crawAt, cellAt, cellValuesAt}
+use Rattle.compensation.specs.ForCode.{yAt, rawCellAt, crawAt, cellValueAt, cellValuesAt}
 use Rattle.compensation.proofs.Magnitudes.{Holds, CellMagnitudes, cell-magnitudes}
 use Rattle.compensation.proofs.steps.cell_values.Statement.{statement}
 use Rattle.compensation.proofs.steps.cell_values.Tie as tie
@@ -45,8 +45,8 @@ craw-held c =
     let s = c .before .before .before .before .before .before in
     stored-is (in-range s .craw-within .abs) tt (simp (raw-held (c .before)) at (c .hold-cell .ensures))
 
-cell-held : (c : tie.After-corrected) → let s = c .before .before .before .before .before .before .before in Holds (c .corrected .result) (cellAt (s .args .cell) (s .args .linearity) (s .args .input))
-unfolding cellAt
+cell-held : (c : tie.After-corrected) → let s = c .before .before .before .before .before .before .before in Holds (c .corrected .result) (cellValueAt (s .args .cell) (s .args .linearity) (s .args .input))
+unfolding cellValueAt
 cell-held c =
     let s = c .before .before .before .before .before .before .before in
     stored-is (in-range s .cell-within .abs) tt (simp (craw-held (c .before)) at (c .corrected .ensures))
@@ -65,7 +65,7 @@ corrected-requires c κs =
 
 -- ---- the values, put together
 
-built : (c : Cell) (l : Linearity) (i : Input) {x y z : ℤ} → x ≡ rawCellAt c i → y ≡ crawAt c i → z ≡ cellAt c l i → record { raw = x; craw = y; cell = z } ≡ cellValuesAt c l i
+built : (c : Cell) (l : Linearity) (i : Input) {x y z : ℤ} → x ≡ rawCellAt c i → y ≡ crawAt c i → z ≡ cellValueAt c l i → record { raw = x; craw = y; cell = z } ≡ cellValuesAt c l i
 unfolding cellValuesAt
 built c l i x y z = rw (x, y, z)
 

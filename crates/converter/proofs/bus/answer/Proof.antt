@@ -12,13 +12,13 @@ use Rattle.in_force.specs.declared.Setup.{Setup}
 use Rattle.state.specs.declared.State.{State}
 use Rattle.answers.specs.declared.Answer.{Answer}
 use Rattle.converter.specs.Call.{replyWith}
-use Rattle.converter.specs.Reached.{Parts, Answering}
+use Rattle.converter.specs.Reached.{Parts, Delivers}
 use Rattle.converter.proofs.Sound.{state-within}
 use Rattle.converter.proofs.Reached.{reached-sound}
 use Rattle.converter.proofs.bus.answer.Statement.{statement}
 use Rattle.converter.proofs.bus.answer.Tie as tie
 
-answers : {a b : Answer} (bytes before after : List ℕ) {n m : ℕ} → a ≡ b → Replied (replyWith bytes (length before) a) before after m → n ≡ numberOf a → Answering b bytes before after (record { number = n; length = m })
+answers : {a b : Answer} (bytes before after : List ℕ) {n m : ℕ} → a ≡ b → Replied (replyWith bytes (length before) a) before after m → n ≡ numberOf a → Delivers b bytes before after (record { number = n; length = m })
 answers bytes before after e h k = record { number-is = k ∙ ap numberOf e; replied = rw e at h }
 
 within : {s : State} {t : Setup} → Parts s t → StateWithin s (t .figures .system .sz) (t .copy)
@@ -32,7 +32,7 @@ returns c =
     let b = c .before .before .before in
     let a = b .before .before in
     let s = a .before .before .before in
-    answers (now (s .args .frame)) (now (s .args .reply)) _ (a .answer-to-read .ensures) (b .reply-with .ensures) (c .number-in .ensures)
+    answers (now (s .args .frame)) (now (s .args .reply)) _ (a .answer-to-read .ensures) (b .reply-with .ensures) (c .number-of .ensures)
 
 pub answer-spec : {M : Type 1} → statement M
 answer-spec = tie.close (tie.spec answer-to-read-requires (λ c κs. search needs) (λ c κs. search needs) (λ c. search needs) returns)

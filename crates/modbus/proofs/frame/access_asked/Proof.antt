@@ -21,11 +21,11 @@ odd s w e h = simp (ne-eqb (wordAt s 2 % 2) 0 (λ g. h (ap (λ (k : ℕ). k % 2)
 
 returns : tie.Need-returns
 returns c =
-    let w = c .before .before .word in
+    let w = c .before .before .word-at in
     c .access-to .ensures ∙ even (now (c .before .before .before .before .args .frame)) (w .result) (w .ensures) (c .before .if1 .taken)
 
 returns-2 : tie.Need-returns-2
-returns-2 c = let w = c .before .word in odd (now (c .before .before .before .args .frame)) (w .result) (w .ensures) (c .if1 .left)
+returns-2 c = let w = c .before .word-at in odd (now (c .before .before .before .args .frame)) (w .result) (w .ensures) (c .if1 .left)
 
 pub access-asked-spec : {M : Type 1} → statement M
 access-asked-spec = tie.close (tie.spec (λ c κs. search needs) (λ c κs. search needs) returns returns-2)

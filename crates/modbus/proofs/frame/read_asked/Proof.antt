@@ -39,14 +39,14 @@ returns c = simp (ne-eqb _ _ (c .if1 .taken))
 
 returns-2 : tie.Need-returns-2
 unfolding readAsked
-returns-2 c = simp (eq-eqb _ _ (c .before .before .if1 .left), ne-eqb _ _ (λ e. c .if2 .taken (c .before .word .ensures ∙ e)))
+returns-2 c = simp (eq-eqb _ _ (c .before .before .if1 .left), ne-eqb _ _ (λ e. c .if2 .taken (c .before .word-at .ensures ∙ e)))
 
 -- at an even address
-listed-at : (c : tie.After-is-listed) (b : Bool) → c .is-listed .result ≡ b → cond b (Read (c .before .before .word2 .result / 2)) (Refused 15) ≡ readAsked (now (c .before .before .before .before .before .before .before .args .frame))
+listed-at : (c : tie.After-is-listed) (b : Bool) → c .is-listed .result ≡ b → cond b (Read (c .before .before .word-at2 .result / 2)) (Refused 15) ≡ readAsked (now (c .before .before .before .before .before .before .before .args .frame))
 listed-at c b e =
     let w = c .before .before in
-    asked (now (w .before .before .before .before .before .args .frame)) (w .word2 .result) (w .before .before .before .if1 .left)
-    (sym (w .before .before .word .ensures) ∙ w .before .if2 .left) (w .word2 .ensures) (c .before .if3 .taken) b (sym e ∙ c .is-listed .ensures)
+    asked (now (w .before .before .before .before .before .args .frame)) (w .word-at2 .result) (w .before .before .before .if1 .left)
+    (sym (w .before .before .word-at .ensures) ∙ w .before .if2 .left) (w .word-at2 .ensures) (c .before .if3 .taken) b (sym e ∙ c .is-listed .ensures)
 
 returns-3 : tie.Need-returns-3
 returns-3 c = listed-at (c .before) true (c .if4 .taken)
@@ -55,7 +55,7 @@ returns-4 : tie.Need-returns-4
 returns-4 c = listed-at (c .before) false (c .if4 .left)
 
 returns-5 : tie.Need-returns-5
-returns-5 c = odd (now (c .before .before .before .before .before .before .args .frame)) (c .before .word2 .result) (c .before .before .before .before .if1 .left) (sym (c .before .before .before .word .ensures) ∙ c .before .before .if2 .left) (c .before .word2 .ensures) (c .if3 .left)
+returns-5 c = odd (now (c .before .before .before .before .before .before .args .frame)) (c .before .word-at2 .result) (c .before .before .before .before .if1 .left) (sym (c .before .before .before .word-at .ensures) ∙ c .before .before .if2 .left) (c .before .word-at2 .ensures) (c .if3 .left)
 
 pub read-asked-spec : {M : Type 1} → statement M
 read-asked-spec =

@@ -45,24 +45,24 @@ returns c = simp (ne-eqb _ _ (c .if1 .taken))
 
 returns-2 : tie.Need-returns-2
 unfolding writeAsked
-returns-2 c = simp (eq-eqb _ _ (c .before .before .if1 .left), ne-eqb _ _ (λ e. c .if2 .taken (c .before .word .ensures ∙ e)))
+returns-2 c = simp (eq-eqb _ _ (c .before .before .if1 .left), ne-eqb _ _ (λ e. c .if2 .taken (c .before .word-at .ensures ∙ e)))
 
 returns-3 : tie.Need-returns-3
 unfolding writeAsked
-returns-3 c = simp (eq-eqb _ _ (c .before .before .before .before .if1 .left), eq-eqb _ _ (sym (c .before .before .before .word .ensures) ∙ c .before .before .if2 .left), ne-eqb _ _ (c .if3 .taken))
+returns-3 c = simp (eq-eqb _ _ (c .before .before .before .before .if1 .left), eq-eqb _ _ (sym (c .before .before .before .word-at .ensures) ∙ c .before .before .if2 .left), ne-eqb _ _ (c .if3 .taken))
 
 -- where the address is known
-abbrev frame-at : tie.After-word2 → List ℕ
+abbrev frame-at : tie.After-word-at2 → List ℕ
 frame-at w = now (w .before .before .before .before .before .before .before .before .before .before .before .before .args .frame)
 
-good-at : (w : tie.After-word2) → writeOf (accessAsked (frame-at w)) (registerOf (frame-at w)) (w .before .float-of-bytes .result) ≡ writeAsked (frame-at w)
+good-at : (w : tie.After-word-at2) → writeOf (accessAsked (frame-at w)) (registerOf (frame-at w)) (w .before .float-of-bytes .result) ≡ writeAsked (frame-at w)
 good-at w =
     let e = w .before .before .before .before .before .before in
     let v = e .before .before .before in
-    good (frame-at w) (w .before .float-of-bytes .result) (v .before .if1 .left) (sym (v .word .ensures) ∙ e .before .before .if2 .left) (e .if3 .left) (w .before .float-of-bytes .ensures)
+    good (frame-at w) (w .before .float-of-bytes .result) (v .before .if1 .left) (sym (v .word-at .ensures) ∙ e .before .before .if2 .left) (e .if3 .left) (w .before .float-of-bytes .ensures)
 
 returns-4 : tie.Need-returns-4
-returns-4 c = let w = c .before .before in c .zero-write .ensures ∙ to-zero (frame-at w) (w .before .float-of-bytes .result) (sym (w .word2 .ensures) ∙ c .before .if4 .taken) ∙ good-at w
+returns-4 c = let w = c .before .before in c .zero-write .ensures ∙ to-zero (frame-at w) (w .before .float-of-bytes .result) (sym (w .word-at2 .ensures) ∙ c .before .if4 .taken) ∙ good-at w
 
 write-of-requires : tie.Need-write-of-requires
 write-of-requires c κs = asked-computable (frame-at (c .before .before)) (c .access-asked .ensures)
@@ -70,7 +70,7 @@ write-of-requires c κs = asked-computable (frame-at (c .before .before)) (c .ac
 returns-5 : tie.Need-returns-5
 returns-5 c =
     let w = c .before .before .before in
-    c .write-of .ensures ∙ to-other (frame-at w) (c .before .access-asked .result) (w .word2 .result) (w .before .float-of-bytes .result) (c .before .access-asked .ensures) (w .word2 .ensures) ∙ good-at w
+    c .write-of .ensures ∙ to-other (frame-at w) (c .before .access-asked .result) (w .word-at2 .result) (w .before .float-of-bytes .result) (c .before .access-asked .ensures) (w .word-at2 .ensures) ∙ good-at w
 
 pub write-asked-spec : {M : Type 1} → statement M
 write-asked-spec =

@@ -10,16 +10,16 @@ use lib.ListN.{length, take}
 use lib.Seq.{length-take-le}
 use Rattle.integers.proofs.Words.{number-at}
 use Rattle.integers.specs.Bytes.{byteAt}
-use Rattle.modbus.specs.Reply.{silent, answer, writeReply, Replied}
+use Rattle.modbus.specs.Reply.{silent, unlessSilent, writeReply, Replied}
 use Rattle.checksum.proofs.Bytes.{bytes-taken}
 use Rattle.modbus.proofs.Replies.{enough, replied, unreplied}
 use borrow.Author.Needs.{needs}
 use Rattle.modbus.proofs.reply.acknowledgement.Statement.{statement}
 use Rattle.modbus.proofs.reply.acknowledgement.Tie as tie
 
-whole : (s b after : List ℕ) (n : ℕ) → length s ≡ 13 → Replied (answer s (length b) (take 6 s)) b after n → Replied (writeReply s (length b)) b after n
+whole : (s b after : List ℕ) (n : ℕ) → length s ≡ 13 → Replied (unlessSilent s (length b) (take 6 s)) b after n → Replied (writeReply s (length b)) b after n
 unfolding writeReply
-whole s b after n h r = subst (λ (t : Bool). Replied (cond t (answer s (length b) (take 6 s)) []) b after n) (sym (eq-eqb (length s) 13 h)) r
+whole s b after n h r = subst (λ (t : Bool). Replied (cond t (unlessSilent s (length b) (take 6 s)) []) b after n) (sym (eq-eqb (length s) 13 h)) r
 
 speaks : (c : tie.Else2) → silent (now (c .before .before .before .before .before .args .frame)) (length (now (c .before .before .before .before .before .args .reply))) ≡ false
 speaks c = sym (c .before .is-silent .ensures) ∙ c .if2 .left

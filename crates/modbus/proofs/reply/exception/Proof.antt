@@ -10,7 +10,7 @@ use lib.Bits.{bitOr}
 use lib.Dec.{eqb}
 use lib.ListN.{length}
 use Rattle.modbus.specs.Frame.{stationOf, functionOf}
-use Rattle.modbus.specs.Reply.{silent, answer, exceptionCode, exceptionReply, Replied}
+use Rattle.modbus.specs.Reply.{silent, unlessSilent, exceptionCode, exceptionReply, Replied}
 use Rattle.checksum.proofs.Bytes.{Bytes}
 use Rattle.modbus.proofs.Replies.{enough, framed-enough, replied, unreplied}
 use borrow.Author.Needs.{needs}
@@ -20,7 +20,7 @@ use Rattle.modbus.proofs.reply.exception.Tie as tie
 module _ (s b : List ℕ) (number : ℕ) where
   -- the reply with the code k
   abbrev with : ℕ → List ℕ
-  with k = answer s (length b) (stationOf s ∷ bitOr (functionOf s) 128 ∷ k ∷ [])
+  with k = unlessSilent s (length b) (stationOf s ∷ bitOr (functionOf s) 128 ∷ k ∷ [])
 
   abbrev code : ℕ
   code = exceptionCode number (functionOf s)

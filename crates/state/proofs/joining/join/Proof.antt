@@ -7,13 +7,13 @@ use mir.ValLaws.{toZ-ofZ}
 use Rattle.integers.proofs.Machine.{held}
 use Rattle.compensation.specs.declared.steps.Values.{Values}
 use Rattle.state.specs.declared.Readings.{Readings}
-use Rattle.state.specs.Reading.{peakAfter, trofAfter, joined}
+use Rattle.state.specs.Reading.{peakAfter, trofAfter, readingsAfter}
 use Rattle.state.proofs.joining.join.Statement.{statement}
 use Rattle.state.proofs.joining.join.Tie as tie
 
 built : (r : Readings) (elec temp : ℤ) (v : Values) {e t p q : ℤ} → e ≡ elec → t ≡ temp → p ≡ peakAfter r v → q ≡ trofAfter r v
-    → record { any = true; elec = e; temp = t; values = v; peak = p; trof = q } ≡ joined r elec temp v
-unfolding joined
+    → record { any = true; elec = e; temp = t; values = v; peak = p; trof = q } ≡ readingsAfter r elec temp v
+unfolding readingsAfter
 built r elec temp v e t p q = rw (e, t, p, q)
 
 returns : tie.Need-returns

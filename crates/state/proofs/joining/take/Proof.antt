@@ -7,12 +7,12 @@ use borrow.Author.Needs.{needs}
 use Rattle.compensation.specs.declared.steps.Values.{Values}
 use Rattle.state.specs.declared.Readings.{Readings}
 use Rattle.state.specs.declared.State.{State}
-use Rattle.state.specs.Reading.{joined, takenWith}
+use Rattle.state.specs.Reading.{readingsAfter, stateAfterValues}
 use Rattle.state.proofs.joining.take.Statement.{statement}
 use Rattle.state.proofs.joining.take.Tie as tie
 
-built : (s : State) (elec temp : ℤ) (v : Values) {r : Readings} → r ≡ joined (s .readings) elec temp v → record { readings = r; flag = bitOr (s .flag) (v .stat); snapshot = s .snapshot } ≡ takenWith s elec temp v
-unfolding takenWith
+built : (s : State) (elec temp : ℤ) (v : Values) {r : Readings} → r ≡ readingsAfter (s .readings) elec temp v → record { readings = r; flag = bitOr (s .flag) (v .stat); snapshot = s .snapshot } ≡ stateAfterValues s elec temp v
+unfolding stateAfterValues
 built s elec temp v e = rw e
 
 returns : tie.Need-returns

@@ -3,13 +3,13 @@ use mathlib.Core.Path.{_≡_, ap, _∙_}
 use lib.Ieee.{Float}
 use Rattle.binary32.specs.Sent.{stepFloat}
 use Rattle.state.specs.declared.Readings.{Readings}
-use Rattle.state.specs.Report.{reportOf}
+use Rattle.state.specs.Report.{floatsOf}
 use Rattle.state.proofs.Within.{kept, kept-within}
 use Rattle.state.proofs.reporting.floats_of.Statement.{statement}
 use Rattle.state.proofs.reporting.floats_of.Tie as tie
 
 built : (r : Readings) {s p t k : Float} → s ≡ stepFloat (r .values .sys) → p ≡ stepFloat (r .peak) → t ≡ stepFloat (r .trof) → k ≡ stepFloat (r .values .cell)
-    → record { sys = s; peak = p; trof = t; cell = k } ≡ reportOf r
+    → record { sys = s; peak = p; trof = t; cell = k } ≡ floatsOf r
 built r s p t k = rw (s, p, t, k)
 
 float-of-steps-requires-2 : tie.Need-float-of-steps-requires-2

@@ -1,6 +1,6 @@
 -- `vectors::frames::asks` meets its contract. Assumes nothing.
 use mathlib.Core.Path.{_∙_, ap, sym}
-use Rattle.vectors.specs.Asked.{numberOf, floatOf}
+use Rattle.vectors.specs.Asked.{askedNumber, floatOf}
 use borrow.Author.Tests.{eq-eqb}
 use borrow.Author.Needs.{needs}
 use Rattle.vectors.proofs.frames.asks.Statement.{statement}
@@ -9,7 +9,7 @@ use Rattle.vectors.proofs.frames.asks.Tie as tie
 expect-requires : tie.Need-expect-requires
 expect-requires c κs =
     let same = c .before .before .judge .ensures ∙ c .before .before .before .before .pre in
-    eq-eqb _ _ (c .before .number-of .ensures ∙ (ap numberOf same ∙ sym (c .number-of2 .ensures)))
+    eq-eqb _ _ (c .before .asked-number .ensures ∙ (ap askedNumber same ∙ sym (c .number-of2 .ensures)))
 
 expect-requires-2 : tie.Need-expect-requires-2
 expect-requires-2 c κs =

@@ -1,10 +1,10 @@
--- `in_force::setup_after` meets its contract: each arm by the frame that it is for. Assumes nothing.
+-- `in_force::setup_by` meets its contract: each arm by the frame that it is for. Assumes nothing.
 use mathlib.Core.Path.{refl}
 use Rattle.modbus.proofs.Frames.{by-case, neither}
 use Rattle.in_force.specs.InForce.{setupBy}
 use borrow.Author.Needs.{needs}
-use Rattle.in_force.proofs.setup_after.Statement.{statement}
-use Rattle.in_force.proofs.setup_after.Tie as tie
+use Rattle.in_force.proofs.setup_by.Statement.{statement}
+use Rattle.in_force.proofs.setup_by.Tie as tie
 
 returns : tie.Need-returns
 unfolding setupBy
@@ -18,5 +18,5 @@ returns-3 : tie.Need-returns-3
 unfolding setupBy
 returns-3 c = neither (setupBy (c .before .args .setup)) (λ n. refl) (λ r. refl) (c .before .args .frame) (c .match .keys3)
 
-pub setup-after-spec : {M : Type 1} → statement M
-setup-after-spec = tie.close (tie.spec (λ c. search needs) (λ c κs. search needs) (λ c. search needs) (λ c κs. search needs) returns returns-2 returns-3)
+pub setup-by-spec : {M : Type 1} → statement M
+setup-by-spec = tie.close (tie.spec (λ c. search needs) (λ c κs. search needs) (λ c. search needs) (λ c κs. search needs) returns returns-2 returns-3)

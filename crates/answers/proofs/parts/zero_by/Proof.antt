@@ -1,4 +1,4 @@
--- `answers::parts::zero_after` meets its contract. Assumes nothing.
+-- `answers::parts::zero_by` meets its contract. Assumes nothing.
 use borrow.Author.Tests.{eq-eqb, ne-eqb}
 use mir.Syntax.{w64}
 use mir.ValLaws.{toZ-ofZ}
@@ -6,8 +6,8 @@ use Rattle.integers.proofs.Machine.{held}
 use Rattle.modbus.proofs.Frames.{by-case, no-write}
 use Rattle.answers.specs.Parts.{zeroBy}
 use borrow.Author.Needs.{needs}
-use Rattle.answers.proofs.parts.zero_after.Statement.{statement}
-use Rattle.answers.proofs.parts.zero_after.Tie as tie
+use Rattle.answers.proofs.parts.zero_by.Statement.{statement}
+use Rattle.answers.proofs.parts.zero_by.Tie as tie
 
 returns : tie.Need-returns
 unfolding zeroBy
@@ -21,5 +21,5 @@ returns-3 : tie.Need-returns-3
 unfolding zeroBy
 returns-3 c = let e = toZ-ofZ w64 _ (c .before .fits .sz) in no-write (zeroBy (c .before .args .sz)) (λ n. e) (λ r. e) (λ r. e) (c .before .args .frame) (c .match .keys2)
 
-pub zero-after-spec : {M : Type 1} → statement M
-zero-after-spec = tie.close (tie.spec (λ c. search needs) (λ c κs. search needs) returns returns-2 returns-3)
+pub zero-by-spec : {M : Type 1} → statement M
+zero-by-spec = tie.close (tie.spec (λ c. search needs) (λ c κs. search needs) returns returns-2 returns-3)

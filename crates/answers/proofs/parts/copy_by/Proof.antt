@@ -1,10 +1,10 @@
--- `answers::parts::copy_after` meets its contract. Assumes nothing.
+-- `answers::parts::copy_by` meets its contract. Assumes nothing.
 use mathlib.Core.Path.{refl, sym, _∙_}
 use Rattle.modbus.proofs.Frames.{by-case, no-write}
 use Rattle.answers.specs.Parts.{copyBy}
 use borrow.Author.Needs.{needs}
-use Rattle.answers.proofs.parts.copy_after.Statement.{statement}
-use Rattle.answers.proofs.parts.copy_after.Tie as tie
+use Rattle.answers.proofs.parts.copy_by.Statement.{statement}
+use Rattle.answers.proofs.parts.copy_by.Tie as tie
 
 returns : tie.Need-returns
 unfolding copyBy
@@ -18,5 +18,5 @@ returns-3 : tie.Need-returns-3
 unfolding copyBy
 returns-3 c = no-write (copyBy (c .before .args .copy)) (λ n. refl) (λ r. refl) (λ r. refl) (c .before .args .frame) (c .match .keys2)
 
-pub copy-after-spec : {M : Type 1} → statement M
-copy-after-spec = tie.close (tie.spec (λ c. search needs) (λ c κs. search needs) (λ c κs. search needs) returns returns-2 returns-3)
+pub copy-by-spec : {M : Type 1} → statement M
+copy-by-spec = tie.close (tie.spec (λ c. search needs) (λ c κs. search needs) (λ c κs. search needs) returns returns-2 returns-3)

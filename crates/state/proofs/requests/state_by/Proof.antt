@@ -1,4 +1,4 @@
--- `state::requests::state_after` meets its contract: each arm by the frame that it is for. Assumes nothing.
+-- `state::requests::state_by` meets its contract: each arm by the frame that it is for. Assumes nothing.
 use mathlib.Core.Path.{_≡_, refl}
 use mathlib.Core.List.{[], _∷_}
 use types.Run.{OneOf, miss}
@@ -8,8 +8,8 @@ use Rattle.modbus.specs.declared.frame.Frame.the-variants.{Refused, Read, Write
 use Rattle.modbus.proofs.frame.Frame as F
 use Rattle.state.specs.declared.State.{State}
 use Rattle.state.specs.Request.{stateBy}
-use Rattle.state.proofs.requests.state_after.Statement.{statement}
-use Rattle.state.proofs.requests.state_after.Tie as tie
+use Rattle.state.proofs.requests.state_by.Statement.{statement}
+use Rattle.state.proofs.requests.state_by.Tie as tie
 
 by-case : (s : State) {f g : Frame} {r : State} → f ≡ g → r ≡ stateBy s g → r ≡ stateBy s f
 by-case s e h = rw e h
@@ -29,5 +29,5 @@ returns-2 : tie.Need-returns-2
 unfolding stateBy
 returns-2 c = by-case _ (c .before .before .frame2 .given .1) (c .act .ensures)
 
-pub state-after-spec : {M : Type 1} → statement M
-state-after-spec = tie.close (tie.spec (λ c. c .match .keys1) (λ c κs. tt) (λ c. c .match .keys2) (λ c κs. tt) returns returns-2 (λ c. others _ _ (c .match .keys3)))
+pub state-by-spec : {M : Type 1} → statement M
+state-by-spec = tie.close (tie.spec (λ c. c .match .keys1) (λ c κs. tt) (λ c. c .match .keys2) (λ c κs. tt) returns returns-2 (λ c. others _ _ (c .match .keys3)))
