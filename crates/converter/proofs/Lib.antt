@@ -8,13 +8,13 @@ pub mod Wire
 mod Listed
 pub mod Sound
 pub mod History
-mod Snapshot
-mod Shown
-pub mod Agrees
 pub mod Reached
 pub mod Entries
 pub mod Corollaries
 pub mod Writes
+mod Snapshot
+mod Shown
+pub mod Agrees
 pub mod Panel
 pub mod Example
 pub mod Starred

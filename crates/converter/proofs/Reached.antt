@@ -1,19 +1,14 @@
 -- A device that our calls gave: one call more, what it keeps, and its log. Assumes nothing.
 use mathlib.Core.Path.{_≡_, refl, sym, ap, _∙_, subst}
 use mathlib.Core.List.{List, [], _∷_, _++_}
-use mathlib.Core.Option.{Option}
 use Prim.Native.Nat.{ℕ}
-use lib.IntN.{ℤ}
 use Rattle.converter.specs.declared.Device.{Device}
 use Rattle.converter.specs.Making.{made}
 use Rattle.converter.specs.Call.{Call, afterCall, run}
 use Rattle.converter.specs.Reached.{Reached}
 use Rattle.converter.specs.Log.{Log, logOf}
-use Rattle.converter.specs.Snapshot.{sysnOf}
-use Rattle.converter.specs.History.{Agrees}
 use Rattle.converter.proofs.Sound.{Sound}
 use Rattle.converter.proofs.History.{Tracks, tracks}
-use Rattle.converter.proofs.Agrees.{history}
 
 run-more : (d : Device) (cs : List Call) (c : Call) → run d (cs ++ (c ∷ [])) ≡ afterCall (run d cs) c
 run-more d [] c = refl
@@ -40,9 +35,3 @@ reached-tracks r = subst (λ (x : Device). Tracks x (log-of r)) (sym (r .is)) (t
 
 pub reached-sound : {d : Device} → Reached d → Sound d
 reached-sound r = reached-tracks r .sound
-
-abbrev pub sysn-of : {d : Device} → Reached d → Option ℤ
-sysn-of r = sysnOf (r .sheet) (r .station) (r .calls)
-
-pub reached-agrees : {d : Device} (r : Reached d) → Agrees d (r .station) (log-of r) (sysn-of r)
-reached-agrees r = subst (λ (x : Device). Agrees x (r .station) (log-of r) (sysn-of r)) (sym (r .is)) (history (r .sheet) (r .station) (r .accepted) (r .calls))

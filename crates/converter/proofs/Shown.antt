@@ -16,11 +16,10 @@ use Rattle.answers.specs.Register.{stepsAt, readingFloat, readingAt, panelAt, r
 use Rattle.state.specs.Report.{noReport, reportOf}
 use Rattle.in_force.specs.declared.Setup.{Setup}
 use Rattle.state.specs.declared.Readings.{Readings}
-use Rattle.state.specs.declared.Snapshot.{Snapshot}
 use Rattle.state.specs.declared.reporting.Reported.{Reported}
 use Rattle.answers.specs.declared.Answer.the-variants.{Value, Refused}
 use Rattle.converter.specs.Log.{Kept, valued, Entry, Log}
-use Rattle.converter.specs.Wire.{Sends, Withholds}
+use Rattle.converter.specs.Wire.{Sends}
 use Rattle.converter.specs.History.{Right, SysnShown, AlwaysShown, ofReading, NoneShown, Shown}
 use Rattle.converter.specs.declared.Device.{Device}
 use Rattle.converter.proofs.Listed.{unlisted, listed-at, from-cgai, figure-listed}

@@ -1,12 +1,10 @@
 -- The device's snapshot is what the calls alone say. Assumes nothing.
-use mathlib.Core.Path.{_≡_, refl, sym, ap, _∙_, subst}
+use mathlib.Core.Path.{_≡_, refl, ap, subst}
 use mathlib.Core.Bool.{Bool, true, false, cond}
 use mathlib.Core.List.{List, [], _∷_}
 use mathlib.Core.Option.{Option, none, some}
 use Prim.Native.Nat.{ℕ}
-use lib.Bits.{bitAnd}
 use lib.Dec.{eqb}
-use lib.Ieee.{Float}
 use lib.IntN.{ℤ}
 use Rattle.compensation.specs.declared.steps.Values.{Values}
 use Rattle.integers.proofs.Order.{pick}

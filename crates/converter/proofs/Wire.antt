@@ -46,7 +46,7 @@ module _ (d : Device) (some : d .setup .station ≡ 0 → ⊥) (n : ℕ) where
   pub sends : {x : Float} → (kindSaid n ≡ notListed → ⊥) → register d n ≡ Value x → Sends d n x
   unfolding answerOf unlessSilent framed
   sends {x} listed is room enough =
-      let a = by-request d request room (understood (d .setup .station) room some enough .0 .listed n listed) is in
+      let a = by-request d request room (understood (d .setup .station) room some enough .reads .listed n listed) is in
       (a .0, a .1 ∙ ap (λ (b : Bool). cond b [] (framed (d .setup .station ∷ 3 ∷ 4 ∷ sent x))) (heard request room (read-heard enough)))
 
   refused : {m : ℕ} {f : Frame} → codeSaid m 3 ≡ 2 → ((room : ℕ) → 9 ≤ room → judged request room (d .setup .station) ≡ f)
@@ -59,8 +59,8 @@ module _ (d : Device) (some : d .setup .station ≡ 0 → ⊥) (n : ℕ) where
 
   pub withholds : {m : ℕ} → codeSaid m 3 ≡ 2 → (kindSaid n ≡ notListed → ⊥) → register d n ≡ Refused m → Withholds d n m
   unfolding answerOf
-  withholds two listed is = refused two (λ room enough. understood (d .setup .station) room some enough .0 .listed n listed) is
+  withholds two listed is = refused two (λ room enough. understood (d .setup .station) room some enough .reads .listed n listed) is
 
   pub unlisted-withheld : kindSaid n ≡ notListed → Withholds d n 15
   unfolding answerOf
-  unlisted-withheld e = refused refl (λ room enough. understood (d .setup .station) room some enough .0 .unlisted n e) refl
+  unlisted-withheld e = refused refl (λ room enough. understood (d .setup .station) room some enough .reads .unlisted n e) refl

@@ -1,7 +1,7 @@
 -- What a master's write does, in bytes, for every register. Assumes nothing.
 use mathlib.Core.Path.{_≡_, refl, sym, ap, _∙_}
 use mathlib.Core.Bool.{Bool, cond}
-use mathlib.Core.List.{List, [], _∷_}
+use mathlib.Core.List.{List, []}
 use mathlib.Core.Logic.{inl, inr}
 use Prim.Native.Nat.{ℕ, _≤_}
 use native.Mathlib.Omega.{arith}
@@ -24,7 +24,7 @@ use Rattle.answers.specs.Register.{onReading, onCopy, answerOf}
 use Rattle.answers.specs.declared.Answer.the-variants.{Done, Refused}
 use Rattle.converter.specs.Call.{frame, obeyed}
 use Rattle.converter.specs.Reached.{Reached}
-use Rattle.converter.specs.Wire.{Obeys, Rejects, WritesHeeded, Writes}
+use Rattle.converter.specs.Wire.{Obeys, Rejects, WritesHeeded}
 use Rattle.converter.specs.declared.Device.{Device}
 use Rattle.converter.proofs.Station.{reached-station}
 use Rattle.converter.proofs.Wire.{by-request}
@@ -45,7 +45,7 @@ module _ (d : Device) (to-one : d .setup .station ≡ 0 → ⊥) (x : Float) (f3
   Asks f = (receiver room : ℕ) → WritesAsked receiver station room x → judged (writeRequest receiver r x) room station ≡ f
 
   asked : {f : Frame} → Asks f → (receiver room : ℕ) → Reaches receiver station → 9 ≤ room → judged (writeRequest receiver r x) room station ≡ f
-  asked asks receiver room to enough = asks receiver room (understood station room to-one enough .1 receiver x f32 to)
+  asked asks receiver room to enough = asks receiver room (understood station room to-one enough .writes receiver x f32 to)
 
   heard-own : {room : ℕ} → 9 ≤ room → Heard own room
   unfolding framed wireBytes
@@ -76,9 +76,10 @@ module _ (d : Device) (to-one : d .setup .station ≡ 0 → ⊥) (x : Float) (f3
       coded : codeSaid n 16 ≡ 0 → ⊥
       coded z = omega (arith, ltb→lt 0 (codeSaid n 16) some, z)
 
-pub writes : Writes
+-- of every device that our calls gave, and every float that an f32 can be
+pub writes : {d : Device} → Reached d → (x : Float) → T (fits binary32 x) → WritesHeeded d x
 unfolding answerOf onReading onCopy
-writes d reached x f32 = record {
+writes {d} reached x f32 = record {
   taken = λ r h t. obeys d to-one x f32 r (Write r x) (λ receiver room a. a .taken r h t) refl;
   unfit = λ r h t. refused r 16 tt (λ receiver room a. a .unfit r h t);
   read-only = λ r h. refused r 16 tt (λ receiver room a. a .read-only r h);

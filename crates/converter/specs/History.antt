@@ -5,6 +5,8 @@ use mathlib.Core.List.{List, [], _∷_, _++_, List·Memᴰ}
 use mathlib.Core.Logic.{_↔_}
 use mathlib.Core.Option.{Option, none, some}
 use Prim.Native.Nat.{ℕ}
+use lib.Dec.{T}
+use lib.Ieee.{Float, binary32, fits}
 use lib.IntN.{ℤ}
 use lib.Signed.{_≤ℤ_}
 use Rattle.compensation.specs.Stat.{Raised}
@@ -17,7 +19,7 @@ use Rattle.state.specs.declared.Readings.{Readings}
 use Rattle.converter.specs.declared.Device.{Device}
 use Rattle.converter.specs.Making.{made}
 use Rattle.converter.specs.Call.{Call, run}
-use Rattle.converter.specs.Wire.{Sends, Withholds}
+use Rattle.converter.specs.Wire.{Sends, Withholds, WritesHeeded}
 use Rattle.converter.specs.Snapshot.{sysnOf}
 use Rattle.converter.specs.Log.{Kept, valued, Entry, joined, peakReset, Event, raised, kept, Log, latest, logOf}
 
@@ -125,6 +127,8 @@ pub record Agrees (d : Device) (station : ℕ) (l : Log) (snapshot : Option ℤ)
   -- there is a reading exactly when the log keeps one
   pub none-kept : latest (l .readings) ≡ none → (d .state .readings .any ≡ false) × NoneShown d
   pub last-kept : (k : Kept) → latest (l .readings) ≡ some k → Right (d .state .readings) (l .readings) k × Shown d k
+  -- and what is written, of every float that an f32 can be
+  pub writes-heeded : (x : Float) → T (fits binary32 x) → WritesHeeded d x
 
 -- from sheet bytes and a station that a making accepts, for every list of calls, refused ones included
 abbrev pub History : Type 0

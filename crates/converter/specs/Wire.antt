@@ -3,8 +3,7 @@ use mathlib.Core.Path.{_≡_}
 use mathlib.Core.Bool.{true, false}
 use mathlib.Core.List.{List, [], _∷_}
 use Prim.Native.Nat.{ℕ, _≤_}
-use lib.Dec.{T}
-use lib.Ieee.{Float, binary32, fits}
+use lib.Ieee.{Float}
 use Rattle.binary32.specs.Received.{takes}
 use Rattle.binary32.specs.Wire.{sent}
 use Rattle.checksum.specs.Checksum.{framed}
@@ -16,7 +15,6 @@ use Rattle.modbus.specs.declared.frame.Frame.{Frame}
 use Rattle.modbus.specs.declared.frame.Frame.the-variants.{Write, Act}
 use Rattle.in_force.specs.InForce.{copyFits}
 use Rattle.converter.specs.Call.{frame, obeyed, afterCall, number, reply}
-use Rattle.converter.specs.Reached.{Reached}
 use Rattle.converter.specs.declared.Device.{Device}
 
 -- a request's number and the bytes replied, in every buffer that 12 does not turn down
@@ -67,7 +65,3 @@ pub record WritesHeeded (d : Device) (x : Float) : Type 0 where
   -- 17: "unfit copy, for register 99"
   pub apply : copyFits (d .setup) ≡ true → Obeys d 99 x (Act 99)
   pub no-apply : copyFits (d .setup) ≡ false → Rejects d 99 x 17 3
-
--- of every device that our calls gave, and every float that an f32 can be
-abbrev pub Writes : Type 0
-Writes = (d : Device) → Reached d → (x : Float) → T (fits binary32 x) → WritesHeeded d x

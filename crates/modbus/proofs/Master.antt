@@ -1,7 +1,7 @@
 -- What a master's request asks of a device, by its bytes. Assumes nothing.
 use mathlib.Core.Path.{_≡_, refl, ap, _∙_}
 use mathlib.Core.Bool.{Bool, true, false, cond}
-use mathlib.Core.List.{List, [], _∷_, _++_}
+use mathlib.Core.List.{_∷_, _++_}
 use mathlib.Core.Logic.{inl, inr}
 use Prim.Native.Nat.{ℕ, _+_, _*_, _/_, _%_, _≤_}
 use native.Mathlib.Omega.{arith}
@@ -125,5 +125,13 @@ module _ (receiver station room : ℕ) (x : Float) (f32 : T (fits binary32 x)) (
     unfit = λ r h t. by-kind r h ∙ ap (λ (b : Bool). cond b (Write r x) (Refused 16)) t;
   }
 
+write-elsewhere : (station room : ℕ) → 9 ≤ room → (receiver r : ℕ) (x : Float) → (Reaches receiver station → ⊥) → judged (writeRequest receiver r x) room station ≡ Refused 13
+unfolding judged forUs framed wireBytes toUs
+write-elsewhere station room enough receiver r x other = rw (le-ltb room 9 enough, ne-eqb receiver 0 (λ e. other (inr e)), ne-eqb receiver station (λ e. other (inl e)))
+
 pub understood : Understood
-understood station room some-station enough = (reads-asked station room some-station enough, λ receiver x f32 to. writes-asked receiver station room x f32 to enough)
+understood station room some-station enough = record {
+  reads = reads-asked station room some-station enough;
+  writes = λ receiver x f32 to. writes-asked receiver station room x f32 to enough;
+  elsewhere = write-elsewhere station room enough;
+}

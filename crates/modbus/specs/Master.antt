@@ -48,7 +48,13 @@ pub record WritesAsked (receiver station room : ℕ) (x : Float) : Type 0 where
   pub read-only : (r : ℕ) → kindSaid r ≡ onlyRead → judged (writeRequest receiver r x) room station ≡ Refused 16
   pub unfit : (r : ℕ) → kindSaid r ≡ valued → takes (rangeOf r) x ≡ false → judged (writeRequest receiver r x) room station ≡ Refused 16
 
--- by every station that a device can have; the float is one that an f32 can be
+pub record Asked (station room : ℕ) : Type 0 where
+  pub reads : ReadsAsked station room
+  -- the float is one that an f32 can be
+  pub writes : (receiver : ℕ) (x : Float) → T (fits binary32 x) → Reaches receiver station → WritesAsked receiver station room x
+  -- 13: "other station"
+  pub elsewhere : (receiver r : ℕ) (x : Float) → (Reaches receiver station → ⊥) → judged (writeRequest receiver r x) room station ≡ Refused 13
+
+-- by every station that a device can have, and with room for every reply
 abbrev pub Understood : Type 0
-Understood = (station room : ℕ) → (station ≡ 0 → ⊥) → 9 ≤ room
-    → ReadsAsked station room × ((receiver : ℕ) (x : Float) → T (fits binary32 x) → Reaches receiver station → WritesAsked receiver station room x)
+Understood = (station room : ℕ) → (station ≡ 0 → ⊥) → 9 ≤ room → Asked station room
