@@ -2,7 +2,7 @@
 use lib.IntN.{ℤ}
 use Rattle.integers.specs.Within.{_within_}
 use Rattle.figures.specs.declared.Calibration.{Calibration}
-use Rattle.panel.specs.Figure.{InRange}
+use Rattle.panel.specs.ForCode.{InRange}
 use Rattle.state.specs.Within.{valueMost, ReadingsWithin}
 use Rattle.state.specs.declared.State.{State}
 

@@ -1,6 +1,6 @@
 // What a frame is answered with, and the registers as they read (01, "The bus"; Change 1).
 ghost use mathlib.Core.Path.{_≡_};
-ghost use Rattle.panel.specs.Figure.{InRange};
+ghost use Rattle.panel.specs.ForCode.{InRange};
 ghost use mathlib.Core.Bool.{true};
 ghost use Rattle.answers.specs.Parts.{isRead};
 ghost use Rattle.answers.specs.Register.{stepsAt, readingFloat, readingAt, panelAt, registerAt, answerOf};

@@ -25,7 +25,8 @@ use Rattle.integers.proofs.Magnitude.{within-between}
 use Rattle.integers.proofs.Order.{is-true, le-yes, ≤-trans}
 use Rattle.arithmetic.specs.Round.{roundDiv}
 use Rattle.arithmetic.proofs.Round.{round-same, round-at-least, round-at-most}
-use Rattle.binary32.specs.Received.{signed, exact, takes, nearest, counted, Computable}
+use Rattle.binary32.specs.Received.{signed, exact, takes, nearest, counted}
+use Rattle.binary32.specs.ForCode.{Computable}
 use Rattle.binary32.specs.Units.{units, unitsOf}
 use Rattle.binary32.specs.declared.received.Range.{Range}
 use Rattle.binary32.proofs.Pattern.{value, reads, finite-is}

@@ -13,7 +13,8 @@ use lib.Pow.{pow-mono, shl-lt}
 use lib.Ieee.{Float, binary32, fits, toBits}
 use Rattle.integers.proofs.Difference.{nat, minus, le!, lt! }
 use Rattle.integers.proofs.Order.{yes-le, no-le}
-use Rattle.binary32.specs.Received.{signed, takes, zeroRange, Computable}
+use Rattle.binary32.specs.Received.{signed, takes, zeroRange}
+use Rattle.binary32.specs.ForCode.{Computable}
 use Rattle.binary32.specs.Units.{units, unitsOf}
 use Rattle.binary32.proofs.Counted.{takes-is, inUnits}
 

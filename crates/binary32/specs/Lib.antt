@@ -3,3 +3,4 @@ pub mod Received
 pub mod Fit
 pub mod Units
 pub mod Wire
+pub mod ForCode

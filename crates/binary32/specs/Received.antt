@@ -1,13 +1,12 @@
 -- A float as a register receives it (01, "The bus"; Change 1): "A value that is not finite, or before rounding beyond its range
 -- .., or a count or FFST that is not whole, is 16."
 use mathlib.Core.Bool.{Bool, cond, _&&_, _||_}
-use Prim.Native.Nat.{ℕ, _*_, _^_, _≤_, _%_}
+use Prim.Native.Nat.{ℕ, _*_, _^_, _%_}
 use lib.Dec.{ltb, eqb}
 use lib.IntN.{ℤ, pos, negℤ, natAbs, _*ℤ_}
 use lib.Signed.{leZ}
 use lib.Ieee.{Float, nan, inf, fin, up, down}
 use lib.Ieee.Scale.{finite}
-use Rattle.integers.specs.Within.{_within_}
 use Rattle.arithmetic.specs.Round.{roundDiv}
 use Rattle.arithmetic.specs.Fraction.{Fraction, whole, _over_}
 use Rattle.binary32.specs.declared.received.Range.{Range}
@@ -40,9 +39,3 @@ counted r x = cond (takes r x) (nearest (r .shift) x) (pos 0)
 -- "SZ takes ±32,000", in steps
 abbrev pub zeroRange : Range
 zeroRange = record { shift = 16; least = negℤ (pos 2097152000); most = pos 2097152000 }
-
--- what the code asks of a range: no register's is wider
-pub record Computable (r : Range) : Type 0 where
-  pub shift-in : r .shift ≤ 28
-  pub least-in : r .least within (2 ^ 34)
-  pub most-in : r .most within (2 ^ 34)

@@ -2,7 +2,8 @@
 // infinities are unfit.
 ghost use mathlib.Core.Path.{_≡_};
 ghost use Prim.Native.Nat.{_^_, _≤_, _<_};
-ghost use Rattle.binary32.specs.Received.{takes as taken, counted, zeroRange, Computable};
+ghost use Rattle.binary32.specs.Received.{takes as taken, counted, zeroRange};
+ghost use Rattle.binary32.specs.ForCode.{Computable};
 ghost use Rattle.binary32.specs.Units.{units, unitsOf};
 
 // What a register takes: it counts in 1/2^shift, from least to most; at shift 0 in whole numbers alone.

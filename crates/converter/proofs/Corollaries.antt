@@ -16,7 +16,7 @@ use Rattle.binary32.specs.Received.{counted}
 use Rattle.figures.specs.Unused.{unusedZero}
 use Rattle.register.specs.Number.{FLAG, SZ, SYSN, PEAK, TROF, APPLY, RST, SNAP, PEAKRESET}
 use Rattle.register.specs.Register.{rangeOf}
-use Rattle.register.specs.Ends.{kindSaid}
+use Rattle.register.specs.Listed.{kindSaid}
 use Rattle.modbus.specs.Exception.{topSet, codeSaid, Heard}
 use Rattle.modbus.proofs.Exception.{exceptions-hold}
 use Rattle.panel.specs.Figure.{figureAt, isFigure, withFigure, written}

@@ -6,7 +6,7 @@ use native.Mathlib.Omega.{arith}
 use borrow.Author.Tests.{leb-false, ltb-true, ltb-false}
 use lib.Dec.{T, leb, ltb}
 use Rattle.register.specs.Number.{CGAI, CTO}
-use Rattle.register.specs.Ends.{Kind, notListed, onlyRead, valued, acting, kindSaid}
+use Rattle.register.specs.Listed.{kindSaid, acting, valued, onlyRead, notListed, Kind}
 use Rattle.register.proofs.Run.{at-every}
 use Rattle.panel.specs.Figure.{isFigure}
 use Rattle.panel.proofs.Listed.{over, beyond}

@@ -10,7 +10,7 @@ use lib.IntN.{ℤ}
 use Rattle.compensation.specs.declared.steps.Values.{Values}
 use Rattle.binary32.specs.Sent.{stepFloat, wholeFloat}
 use Rattle.register.specs.Number.{STAT, SOUT, SYS, TEMP, SRAW, CELL, FLAG, CRAW, ELEC, SZ, SYSN, PEAK, TROF, APPLY, RST, SNAP, PEAKRESET}
-use Rattle.register.specs.Ends.{kindSaid}
+use Rattle.register.specs.Listed.{kindSaid}
 use Rattle.panel.specs.Figure.{isFigure, figureFloat}
 use Rattle.answers.specs.Register.{stepsAt, readingFloat, readingAt, panelAt, registerAt}
 use Rattle.state.specs.Report.{noReport, reportOf}

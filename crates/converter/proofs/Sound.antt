@@ -25,7 +25,8 @@ use Rattle.compensation.proofs.Magnitudes.{magnitudes}
 use Rattle.binary32.proofs.Counted.{counted-within}
 use Rattle.register.specs.Number.{FLAG, SZ, APPLY, RST, SNAP, PEAKRESET}
 use Rattle.register.specs.Register.{accessOf, rangeOf}
-use Rattle.panel.specs.Figure.{isFigure, written, InRange}
+use Rattle.panel.specs.Figure.{isFigure, written}
+use Rattle.panel.specs.ForCode.{InRange}
 use Rattle.panel.proofs.Places.{written-in-range, written-representable}
 use Rattle.panel.proofs.Unused.{unused-in-range, unused-representable}
 use Rattle.sheet.specs.Judge.{figuresNumber}

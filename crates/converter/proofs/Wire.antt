@@ -8,7 +8,7 @@ use lib.Dec.{lit≤}
 use lib.Ieee.{Float}
 use Rattle.binary32.specs.Wire.{sent}
 use Rattle.checksum.specs.Checksum.{framed}
-use Rattle.register.specs.Ends.{notListed, kindSaid}
+use Rattle.register.specs.Listed.{kindSaid, notListed}
 use Rattle.modbus.specs.Frame.{judged}
 use Rattle.modbus.specs.Master.{readRequest}
 use Rattle.modbus.specs.Exception.{topSet, codeSaid, Heard}

@@ -10,7 +10,7 @@ use lib.Ieee.{Float, binary32, fits}
 use Rattle.binary32.specs.Wire.{wireBytes}
 use Rattle.checksum.specs.Checksum.{framed}
 use Rattle.register.specs.Number.{APPLY, RST, SNAP, PEAKRESET}
-use Rattle.register.specs.Ends.{acting, kindSaid}
+use Rattle.register.specs.Listed.{kindSaid, acting}
 use Rattle.modbus.specs.Frame.{judged}
 use Rattle.modbus.specs.Master.{asking, writeRequest, Reaches, WritesAsked}
 use Rattle.modbus.specs.Exception.{codeSaid, Heard}

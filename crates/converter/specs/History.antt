@@ -12,7 +12,7 @@ use lib.Signed.{_≤ℤ_}
 use Rattle.compensation.specs.Stat.{Raised}
 use Rattle.compensation.specs.Faithful.{Faithful}
 use Rattle.binary32.specs.Sent.{stepFloat, wholeFloat}
-use Rattle.register.specs.Ends.{notListed, kindSaid}
+use Rattle.register.specs.Listed.{kindSaid, notListed}
 use Rattle.panel.specs.Figure.{isFigure, figureFloat}
 use Rattle.state.specs.Report.{noReport, reportOf}
 use Rattle.state.specs.declared.Readings.{Readings}

@@ -9,7 +9,8 @@ use lib.ListN.{length}
 use lib.Ieee.{Float, fin, binary32, toBits, ofBits}
 use Rattle.arithmetic.specs.Round.{roundDiv}
 use Rattle.arithmetic.specs.Table.{Point, interpolated}
-use Rattle.figures.specs.Default.{defaultSheet, noTemperature, apart}
+use Rattle.figures.specs.Default.{defaultSheet, apart}
+use Rattle.figures.specs.Unused.{noTemperature}
 use Rattle.figures.specs.declared.Calibration.{Calibration}
 use Rattle.figures.specs.declared.Filter.{Filter}
 use Rattle.sheet.specs.Read.{sheetNumber}

@@ -2,15 +2,14 @@
 use mathlib.Core.Path.{_≡_}
 use mathlib.Core.Bool.{true, false}
 use mathlib.Core.List.{List, [], _∷_}
-use Prim.Native.Nat.{ℕ, _≤_}
+use Prim.Native.Nat.{ℕ, _+_, _≤_}
 use lib.Ieee.{Float}
 use Rattle.binary32.specs.Received.{takes}
 use Rattle.binary32.specs.Wire.{sent}
 use Rattle.checksum.specs.Checksum.{framed}
 use Rattle.register.specs.Register.{rangeOf}
-use Rattle.register.specs.Ends.{notListed, onlyRead, valued, kindSaid}
+use Rattle.register.specs.Listed.{kindSaid, valued, onlyRead, notListed}
 use Rattle.modbus.specs.Master.{asking, readRequest, writeRequest, Reaches}
-use Rattle.modbus.specs.Exception.{topSet}
 use Rattle.modbus.specs.declared.frame.Frame.{Frame}
 use Rattle.modbus.specs.declared.frame.Frame.the-variants.{Write, Act}
 use Rattle.in_force.specs.InForce.{copyFits}
@@ -30,7 +29,7 @@ Sends d r x = let station = d .setup .station in Gets d (readRequest station r) 
 -- or is refused with n: "exception, 5 bytes: station, function with its top bit set, code, checksum. Code .. 2 for 15, 11, and 10 on a
 -- read"
 abbrev pub Withholds : Device → ℕ → ℕ → Type 0
-Withholds d r n = let station = d .setup .station in Gets d (readRequest station r) n (framed (station ∷ topSet 3 ∷ 2 ∷ []))
+Withholds d r n = let station = d .setup .station in Gets d (readRequest station r) n (framed (station ∷ 3 + 128 ∷ 2 ∷ []))
 
 -- ---- a write of x to register r, to the device's station and to all: "Station 0 is broadcast: writes act, nothing is replied, faults
 -- keep their number"
@@ -46,7 +45,7 @@ pub record Obeys (d : Device) (r : ℕ) (x : Float) (f : Frame) : Type 0 where
 
 -- or refused with n: "No refusal changes a device"
 pub record Rejects (d : Device) (r : ℕ) (x : Float) (n code : ℕ) : Type 0 where
-  pub told : let station = d .setup .station in Gets d (writeRequest station r x) n (framed (station ∷ topSet 16 ∷ code ∷ []))
+  pub told : let station = d .setup .station in Gets d (writeRequest station r x) n (framed (station ∷ 16 + 128 ∷ code ∷ []))
   pub broadcast : Gets d (writeRequest 0 r x) n []
   pub does : Leaves d r x d
 

@@ -4,15 +4,10 @@ use mathlib.Core.List.{[], _∷_}
 use Prim.Native.Nat.{_*_}
 use lib.IntN.{ℤ, pos, negℤ}
 use Rattle.figures.specs.Limits.{unit}
+use Rattle.figures.specs.Unused.{noTemperature, noLinearity}
 use Rattle.figures.specs.declared.TemperaturePoint.{TemperaturePoint}
 use Rattle.figures.specs.declared.LinearityPoint.{LinearityPoint}
 use Rattle.figures.specs.declared.Calibration.{Calibration}
-
-abbrev pub noTemperature : TemperaturePoint
-noTemperature = record { ct = pos 0; cto = pos 0; ctg = pos 0 }
-
-abbrev pub noLinearity : LinearityPoint
-noLinearity = record { clx = pos 0; clk = pos 0 }
 
 unfoldable pub defaultSheet : Calibration
 defaultSheet = record {

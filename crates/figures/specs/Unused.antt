@@ -2,8 +2,17 @@
 -- sheet").
 use mathlib.Core.List.{List, [], _∷_}
 use Prim.Native.Nat.{ℕ, zero, suc}
-use Rattle.figures.specs.Default.{noTemperature, noLinearity}
+use lib.IntN.{pos}
+use Rattle.figures.specs.declared.TemperaturePoint.{TemperaturePoint}
+use Rattle.figures.specs.declared.LinearityPoint.{LinearityPoint}
 use Rattle.figures.specs.declared.Calibration.{Calibration}
+
+-- what stands there
+abbrev pub noTemperature : TemperaturePoint
+noTemperature = record { ct = pos 0; cto = pos 0; ctg = pos 0 }
+
+abbrev pub noLinearity : LinearityPoint
+noLinearity = record { clx = pos 0; clk = pos 0 }
 
 -- the first n as they are, the others 0
 abbrev pub used : {A : Type 0} → A → ℕ → List A → List A

@@ -10,9 +10,8 @@ use lib.ListN.{getD}
 use lib.Seq.{ext-getD}
 use lib.Signed.{ltZ, _<ℤ_}
 use Rattle.integers.proofs.Order.{is-true, lt-no}
-use Rattle.figures.specs.Default.{noTemperature, noLinearity}
+use Rattle.figures.specs.Unused.{noLinearity, noTemperature, used, unusedZero}
 use Rattle.figures.specs.Representable.{Representable}
-use Rattle.figures.specs.Unused.{used, unusedZero}
 use Rattle.figures.specs.declared.TemperaturePoint.{TemperaturePoint}
 use Rattle.figures.specs.declared.LinearityPoint.{LinearityPoint}
 use Rattle.figures.specs.declared.Calibration.{Calibration}

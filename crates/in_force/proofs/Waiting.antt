@@ -15,7 +15,7 @@ use Rattle.figures.specs.declared.Calibration.{Calibration}
 use Rattle.sheet.proofs.Theorems.{judged-acceptable}
 use Rattle.binary32.specs.Received.{counted}
 use Rattle.binary32.specs.Sent.{countFloat}
-use Rattle.register.specs.Ends.{isIn}
+use Rattle.register.specs.Listed.{isIn}
 use Rattle.register.specs.Number.{SZ, APPLY, RST}
 use Rattle.register.specs.Register.{accessOf, rangeOf}
 use Rattle.modbus.specs.declared.frame.Frame.{Frame}

@@ -13,7 +13,7 @@ use Rattle.figures.specs.Representable.{Representable}
 use Rattle.figures.specs.declared.Calibration.{Calibration}
 use Rattle.binary32.specs.Received.{counted}
 use Rattle.binary32.specs.Sent.{countFloat}
-use Rattle.register.specs.Ends.{from, isIn}
+use Rattle.register.specs.Listed.{from, isIn}
 use Rattle.register.specs.Register.{rangeOf}
 use Rattle.modbus.specs.declared.frame.Frame.{Frame}
 use Rattle.modbus.specs.declared.frame.Frame.the-variants.{Refused, Read, Write, Act}

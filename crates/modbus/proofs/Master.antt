@@ -17,7 +17,8 @@ use Rattle.modbus.specs.declared.frame.Frame.{Frame}
 use Rattle.modbus.specs.declared.frame.Frame.the-variants.{Read, Write, Act, Refused}
 use Rattle.checksum.specs.Checksum.{framed}
 use Rattle.register.specs.Register.{accessOf, rangeIn, rangeOf}
-use Rattle.register.specs.Ends.{Kind, notListed, onlyRead, valued, acting, kindOf, kindSaid}
+use Rattle.register.specs.Ends.{kindOf}
+use Rattle.register.specs.Listed.{kindSaid, acting, valued, onlyRead, notListed, Kind}
 use Rattle.modbus.specs.Frame.{toUs, forUs, registerOf, valueOf, accessAsked, readOf, readAsked, writeOf, writeAsked, judged}
 use Rattle.modbus.specs.Master.{asking, readRequest, writeRequest, ReadsAsked, Reaches, WritesAsked, Understood}
 use Rattle.modbus.proofs.Checked.{framed-checked}

@@ -12,7 +12,7 @@ use Rattle.binary32.specs.Wire.{sent}
 use Rattle.modbus.specs.declared.frame.Frame.the-variants.{Refused, Read, Write, Act}
 use Rattle.checksum.specs.Checksum.{framed}
 use Rattle.register.specs.Register.{rangeOf}
-use Rattle.register.specs.Ends.{notListed, onlyRead, valued, acting, kindSaid}
+use Rattle.register.specs.Listed.{kindSaid, acting, valued, onlyRead, notListed}
 use Rattle.modbus.specs.Frame.{judged}
 
 -- station, function, address, quantity: "Wire address = 2 × register number", and "quantity 2", each with the high byte first

@@ -2,7 +2,7 @@
 ghost use mathlib.Core.Path.{_≡_};
 ghost use Prim.Native.Nat.{_+_, _≤_, _<_};
 ghost use lib.ListN.{length};
-ghost use Rattle.binary32.specs.Received.{Computable};
+ghost use Rattle.binary32.specs.ForCode.{Computable};
 ghost use Rattle.register.specs.Number.{SZ};
 ghost use Rattle.register.specs.Register.{accessOf, rangeIn};
 ghost use Rattle.modbus.specs.Frame.{wordAt, toUs, checked, forUs, accessAsked, readAsked, writeOf, writeAsked, judged};

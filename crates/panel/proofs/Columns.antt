@@ -4,7 +4,7 @@ use Prim.Native.Nat.{ℕ, _+_, _-_, _≤_}
 use native.Mathlib.Omega.{arith}
 use lib.ListN.{getD}
 use borrow.Author.Tests.{ne-eqb}
-use Rattle.figures.specs.Default.{noTemperature, noLinearity}
+use Rattle.figures.specs.Unused.{noLinearity, noTemperature}
 use Rattle.figures.specs.declared.Temperature.{Temperature}
 use Rattle.figures.specs.declared.Linearity.{Linearity}
 use Rattle.register.specs.Number.{CLN, CLX, CLK, CTN, CT, CTG, CTO}

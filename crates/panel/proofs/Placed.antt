@@ -12,7 +12,7 @@ use Rattle.figures.specs.declared.Calibration.{Calibration}
 use Rattle.binary32.specs.Received.{counted}
 use Rattle.register.specs.Number.{CGAI, COFS, CMIN, CMAX, CLN, CLX, CLK, SGAI, SOFS, SMIN, SMAX, FFLV, FFST, CTN, CT, CTG, CTO}
 use Rattle.register.specs.Register.{rangeOf}
-use Rattle.register.specs.Ends.{isIn}
+use Rattle.register.specs.Listed.{isIn}
 use Rattle.register.proofs.Run.{at-every}
 use Rattle.register.proofs.Registers.{told}
 use Rattle.register.proofs.Ends.{none-in}

@@ -16,7 +16,7 @@ use mir.Val.{Fits}
 use Rattle.integers.specs.Within.{_within_}
 use Rattle.integers.proofs.Difference.{nat, le?}
 use Rattle.integers.proofs.Order.{pick, ≤-trans}
-use Rattle.figures.specs.Default.{noTemperature, noLinearity}
+use Rattle.figures.specs.Unused.{noLinearity, noTemperature}
 use Rattle.figures.specs.Representable.{Representable}
 use Rattle.figures.specs.declared.Cell.{Cell}
 use Rattle.figures.specs.declared.Temperature.{Temperature}
@@ -29,7 +29,8 @@ use Rattle.binary32.proofs.Counted.{counted-within, counted-up}
 use Rattle.register.specs.Number.{CGAI, COFS, CMIN, CMAX, CLN, CLX, CLK, SGAI, SOFS, SMIN, SMAX, FFLV, FFST, CTN, CT, CTG, CTO}
 use Rattle.register.specs.Register.{accessOf, rangeOf}
 use Rattle.register.proofs.Registers.{least-within}
-use Rattle.panel.specs.Figure.{among, cellFigure, linearityFigure, systemFigure, filterFigure, temperatureFigure, figureAt, isFigure, put, numbered, cellWith, linearityPointWith, linearityWith, systemWith, filterWith, temperaturePointWith, temperatureWith, withFigure, written, Counts, InRange}
+use Rattle.panel.specs.Figure.{among, cellFigure, linearityFigure, systemFigure, filterFigure, temperatureFigure, figureAt, isFigure, put, numbered, cellWith, linearityPointWith, linearityWith, systemWith, filterWith, temperaturePointWith, temperatureWith, withFigure, written}
+use Rattle.panel.specs.ForCode.{InRange, Counts}
 use Rattle.panel.proofs.Numbered.{at, numbered-long}
 
 module _ (n : ℕ) (z : ℤ) where

@@ -13,10 +13,9 @@ use Rattle.integers.proofs.Magnitude.{within-between}
 use Rattle.integers.proofs.Order.{pick}
 use Rattle.arithmetic.specs.Table.{Point, column, ColumnWithin}
 use Rattle.figures.specs.Acceptable.{temperatureRow, linearityRow, temperatures, linearities, CellAcceptable, TemperatureAcceptable, LinearityAcceptable, SystemAcceptable, FilterAcceptable, Acceptable}
-use Rattle.figures.specs.Default.{noTemperature, noLinearity}
+use Rattle.figures.specs.Unused.{noLinearity, noTemperature, used, unusedZero}
 use Rattle.figures.specs.Limits.{clxMost, clkMost, ctMost, ctgMost, ctoMost}
 use Rattle.figures.specs.Representable.{Representable}
-use Rattle.figures.specs.Unused.{used, unusedZero}
 use Rattle.figures.specs.declared.Cell.{Cell}
 use Rattle.figures.specs.declared.Temperature.{Temperature}
 use Rattle.figures.specs.declared.Linearity.{Linearity}
@@ -27,7 +26,8 @@ use Rattle.register.specs.Number.{CGAI, COFS, CMIN, CMAX, CLN, CLX, CLK, SGAI, 
 use Rattle.register.specs.declared.Access.{Access}
 use Rattle.register.specs.Register.{accessOf, rangeIn, rangeOf, steps, parts}
 use Rattle.register.proofs.Registers.{in-range}
-use Rattle.panel.specs.Figure.{among, cellFigure, linearityFigure, systemFigure, filterFigure, temperatureFigure, figureAt, temperatureUsed, linearityUsed, InRange}
+use Rattle.panel.specs.Figure.{among, cellFigure, linearityFigure, systemFigure, filterFigure, temperatureFigure, figureAt}
+use Rattle.panel.specs.ForCode.{linearityUsed, temperatureUsed, InRange}
 
 -- ---- one column of a table
 

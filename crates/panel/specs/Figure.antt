@@ -1,18 +1,14 @@
 -- Which figure a register is (Change 1): "CGAI 40, COFS 41, CMIN 44, CMAX 45, CLN 50, CLX 51 to 57, CLK 61 to 67, SGAI 70, SOFS 71,
 -- SMIN 74, SMAX 75, FFLV 92, FFST 93, CTN 110, CT 111 to 115, CTG 116 to 120, CTO 121 to 125". Scale and range of each stand in
--- `modbus/specs/Register.antt`.
-use mathlib.Core.Path.{_≡_}
+-- `register/specs/Register.antt`.
 use mathlib.Core.Bool.{Bool, false, cond, _&&_, _||_}
 use mathlib.Core.List.{List, [], _∷_}
-use Prim.Native.Nat.{ℕ, suc, _+_, _-_, _≤_}
+use Prim.Native.Nat.{ℕ, suc, _+_, _-_}
 use lib.Dec.{eqb, leb, ltb}
 use lib.IntN.{ℤ, pos, natAbs}
 use lib.Ieee.{Float}
 use lib.ListN.{getD}
-use lib.Signed.{_≤ℤ_}
-use Rattle.integers.specs.Within.{_within_}
-use Rattle.figures.specs.Default.{noTemperature, noLinearity}
-use Rattle.figures.specs.Unused.{used}
+use Rattle.figures.specs.Unused.{noLinearity, noTemperature}
 use Rattle.figures.specs.declared.Cell.{Cell}
 use Rattle.figures.specs.declared.TemperaturePoint.{TemperaturePoint}
 use Rattle.figures.specs.declared.Temperature.{Temperature}
@@ -118,26 +114,6 @@ module _ (n : ℕ) (z : ℤ) where
     filter = filterWith (c .filter);
   }
 
--- what is written as a count fits its byte
-pub record Counts (n : ℕ) (z : ℤ) : Type 0 where
-  pub clx-count : n ≡ CLN → (pos 0 ≤ℤ z) × (z ≤ℤ pos 255)
-  pub ct-count : n ≡ CTN → (pos 0 ≤ℤ z) × (z ≤ℤ pos 255)
-
 -- "Values are rounded as SZ is, gains and gain adjustments to 1/2^28."
 unfoldable pub written : Calibration → ℕ → Float → Calibration
 written c n x = withFigure n (counted (rangeOf n) x) c
-
--- ---- what a float of a figure may be asked for: every figure within its register's range
-abbrev pub InRange : Calibration → Type 0
-InRange c = (n : ℕ) → (figureAt c n) within (natAbs (rangeOf n .most))
-
--- a point by its index: `used` of `figures/specs/Unused.antt`, point by point
-abbrev pub usedAt : {A : Type 0} → A → ℕ → ℕ → A → A
-usedAt none count i p = cond (ltb i count) p none
-
--- and table by table
-abbrev pub temperatureUsed : Temperature → Temperature
-temperatureUsed t = record { ctn = t .ctn; points = used noTemperature (t .ctn) (t .points) }
-
-abbrev pub linearityUsed : Linearity → Linearity
-linearityUsed l = record { cln = l .cln; points = used noLinearity (l .cln) (l .points) }

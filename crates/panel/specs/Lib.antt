@@ -1,2 +1,3 @@
 pub mod Figure
 pub mod Placed
+pub mod ForCode

@@ -8,14 +8,14 @@ use Prim.Native.Nat.{ℕ, _+_, _<_}
 use lib.IntN.{pos}
 use lib.Ieee.{Float}
 use lib.ListN.{getD}
-use Rattle.figures.specs.Default.{noTemperature, noLinearity}
+use Rattle.figures.specs.Unused.{noLinearity, noTemperature}
 use Rattle.figures.specs.Representable.{Representable}
 use Rattle.figures.specs.declared.TemperaturePoint.{TemperaturePoint}
 use Rattle.figures.specs.declared.LinearityPoint.{LinearityPoint}
 use Rattle.figures.specs.declared.Calibration.{Calibration}
 use Rattle.binary32.specs.Received.{counted}
 use Rattle.register.specs.Register.{rangeOf}
-use Rattle.register.specs.Ends.{from, isIn}
+use Rattle.register.specs.Listed.{from, isIn}
 use Rattle.panel.specs.Figure.{figureAt, isFigure, written}
 
 -- a table's point, by its index

@@ -11,7 +11,8 @@ use lib.Ieee.Fits.{and-l, and-r}
 use Rattle.arithmetic.specs.Round.{roundDiv, floorDiv}
 use Rattle.binary32.specs.Received.{takes, nearest, counted}
 use Rattle.register.specs.Register.{accessOf, rangeOf}
-use Rattle.register.specs.Ends.{Kind, notListed, onlyRead, valued, acting, kindOf, isIn, kindSaid, numbers, ends, readOnlys, actions, EndsHold}
+use Rattle.register.specs.Ends.{kindOf, EndsHold}
+use Rattle.register.specs.Listed.{Kind, notListed, onlyRead, valued, acting, isIn, kindSaid, readOnlys, values, actions}
 use Rattle.register.proofs.Run.{at-every}
 use Rattle.register.proofs.Registers.{beyond}
 
@@ -53,7 +54,7 @@ none-in [] n t h = refl
 none-in (m ∷ rest) n t h = ap₂ _||_ (ne-eqb n m (λ e. omega (arith, e, ltb→lt m 126 (and-l (ltb m 126) (under rest) t)))) (none-in rest n (and-r (ltb m 126) (under rest) t) h)
 
 none-said : (n : ℕ) → 126 ≤ n → notListed ≡ kindSaid n
-none-said n h = simp (none-in readOnlys n tt h, none-in actions n tt h, none-in (numbers ends) n tt h)
+none-said n h = simp (none-in readOnlys n tt h, none-in actions n tt h, none-in values n tt h)
 
 kinds : (n : ℕ) → kindOf (accessOf n) ≡ kindSaid n
 kinds n = by (ltb n 126) refl

@@ -11,7 +11,7 @@ use lib.IntN.{ℤ, pos, negsuc, natAbs}
 use lib.Ieee.Fits.{and-l, and-r}
 use Rattle.integers.specs.Within.{_within_}
 use Rattle.integers.proofs.Order.{pick}
-use Rattle.binary32.specs.Received.{Computable}
+use Rattle.binary32.specs.ForCode.{Computable}
 use Rattle.binary32.specs.declared.received.Range.{Range}
 use Rattle.register.specs.declared.Access.{Access}
 use Rattle.register.specs.declared.Access.the-variants.{Unlisted, ReadOnly, Takes, Action}

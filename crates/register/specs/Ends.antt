@@ -2,10 +2,9 @@
 -- the smallest float that it takes, what they count as ("Figures, and largest magnitude" in 01's sheet table), and the first that it
 -- does not take. And which registers there are. Nothing is to be believed here but that these are the papers' numbers.
 use mathlib.Core.Path.{_≡_}
-use mathlib.Core.Bool.{Bool, true, false, cond, _||_}
+use mathlib.Core.Bool.{Bool, true, false}
 use mathlib.Core.List.{List, [], _∷_, _++_, map}
-use Prim.Native.Nat.{ℕ, zero, suc, _+_, _-_, _^_}
-use lib.Dec.{eqb}
+use Prim.Native.Nat.{ℕ, suc, _+_, _-_, _^_}
 use lib.IntN.{ℤ, pos, negℤ}
 use lib.ListN.{length}
 use lib.Ieee.{binary32, ofBits}
@@ -13,6 +12,7 @@ use Rattle.binary32.specs.Received.{takes, counted}
 use Rattle.register.specs.declared.Access.{Access}
 use Rattle.register.specs.declared.Access.the-variants.{Unlisted, ReadOnly, Takes, Action}
 use Rattle.register.specs.Register.{accessOf, rangeOf}
+use Rattle.register.specs.Listed.{from, values, Kind, notListed, onlyRead, valued, acting, kindSaid}
 
 -- ---- a pattern that is written: whether it is taken, and what it counts as
 
@@ -48,11 +48,6 @@ _to_have_ first last trials = record { first = first; last = last; trials = tria
 
 abbrev pub _has_ : ℕ → List Trial → Row
 n has trials = n to n have trials
-
--- k numbers from n on
-abbrev pub from : ℕ → ℕ → List ℕ
-from zero n = []
-from (suc k) n = n ∷ from k (suc n)
 
 abbrev pub numbers : List Row → List ℕ
 numbers [] = []
@@ -115,38 +110,17 @@ ends =
 
 -- ---- which registers there are
 
--- STAT, SOUT, SYS, TEMP, SRAW, CELL, CRAW, ELEC, SYSN, PEAK, TROF
-abbrev pub readOnlys : List ℕ
-readOnlys = 6 ∷ 9 ∷ 10 ∷ 11 ∷ 12 ∷ 13 ∷ 15 ∷ 16 ∷ 23 ∷ 24 ∷ 25 ∷ []
-
--- "our own register 99", RST, SNAP, peak reset
-abbrev pub actions : List ℕ
-actions = 99 ∷ 100 ∷ 103 ∷ 104 ∷ []
-
-pub data Kind : Type 0 where
-  notListed : Kind
-  onlyRead : Kind
-  valued : Kind
-  acting : Kind
-
 abbrev pub kindOf : Access → Kind
 kindOf Unlisted = notListed
 kindOf ReadOnly = onlyRead
 kindOf (Takes r) = valued
 kindOf Action = acting
 
-abbrev pub isIn : List ℕ → ℕ → Bool
-isIn [] n = false
-isIn (m ∷ rest) n = eqb n m || isIn rest n
-
-abbrev pub kindSaid : ℕ → Kind
-kindSaid n = cond (isIn readOnlys n) onlyRead (cond (isIn actions n) acting (cond (isIn (numbers ends) n) valued notListed))
-
--- ---- one statement over the list; and no row is missing, and no register: 01's two, and Change 1's of cell, linearity, system, filter
--- and temperature
+-- ---- one statement over the list; no row is missing, 01's two, and Change 1's of cell, linearity, system, filter and temperature, and
+-- no register
 pub record EndsHold : Type 0 where
   pub hold : map (λ r. map (λ n. map (tried n) (r .trials)) (from (suc (r .last) - r .first) (r .first))) ends
       ≡ map (λ r. map (λ n. r .trials) (from (suc (r .last) - r .first) (r .first))) ends
   pub rows : length ends ≡ 2 + 4 + 3 + 4 + 2 + 4
-  pub all : length (numbers ends) ≡ 2 + 4 + 15 + 4 + 2 + 16
+  pub all : numbers ends ≡ values
   pub kinds : (n : ℕ) → kindOf (accessOf n) ≡ kindSaid n

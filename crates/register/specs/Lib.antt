@@ -1,3 +1,4 @@
 pub mod Number
 pub mod Register
+pub mod Listed
 pub mod Ends

@@ -9,7 +9,7 @@ use lib.Signed.{_<ℤ_}
 use Rattle.integers.specs.Within.{_within_}
 use Rattle.figures.specs.Limits.{ctMost, ctoMost, ctgMost, clxMost, clkMost}
 use Rattle.figures.specs.Acceptable.{TemperatureAcceptable, LinearityAcceptable, temperatureRow, linearityRow, temperatures, linearities}
-use Rattle.figures.specs.Default.{noTemperature, noLinearity}
+use Rattle.figures.specs.Unused.{noLinearity, noTemperature}
 use Rattle.figures.specs.declared.TemperaturePoint.{TemperaturePoint}
 use Rattle.figures.specs.declared.Temperature.{Temperature}
 use Rattle.figures.specs.declared.LinearityPoint.{LinearityPoint}

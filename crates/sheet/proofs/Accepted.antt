@@ -14,7 +14,7 @@ use Rattle.integers.proofs.Order.{≤-trans}
 use Rattle.integers.proofs.Magnitude.{within-of}
 use Rattle.integers.proofs.Machine.{fits! }
 use Rattle.figures.specs.Acceptable.{Acceptable, temperatureRow, linearityRow, temperatures, linearities}
-use Rattle.figures.specs.Default.{noTemperature, noLinearity}
+use Rattle.figures.specs.Unused.{noLinearity, noTemperature}
 use Rattle.figures.specs.Representable.{Representable, Fitting}
 use Rattle.figures.specs.declared.Calibration.{Calibration}
 use Rattle.sheet.specs.Judge.{never, linearityStart, systemStart, filterStart, figuresNumber}

@@ -4,9 +4,8 @@ use mathlib.Core.List.{List, [], _++_, append-assoc, append-nil}
 use Prim.Native.Nat.{ℕ, _+_, _*_, _-_, _≤_, _<_}
 use native.Mathlib.Omega.{arith}
 use lib.ListN.{length, getD, drop, length-drop}
-use Rattle.figures.specs.Default.{noTemperature, noLinearity}
+use Rattle.figures.specs.Unused.{noLinearity, noTemperature, used, unusedZero}
 use Rattle.figures.specs.Representable.{Representable, CellFits, TemperaturePointFits, LinearityPointFits, SystemFits, FilterFits, Fitting}
-use Rattle.figures.specs.Unused.{used, unusedZero}
 use Rattle.figures.specs.declared.Cell.{Cell}
 use Rattle.figures.specs.declared.TemperaturePoint.{TemperaturePoint}
 use Rattle.figures.specs.declared.Temperature.{Temperature}

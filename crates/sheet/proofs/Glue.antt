@@ -6,7 +6,7 @@ use Prim.Native.Nat.{ℕ, _+_, _*_, _≤_, min}
 use native.Mathlib.Omega.{arith}
 use lib.ListN.{length, drop}
 use lib.Seq.{drop-length}
-use Rattle.figures.specs.Default.{noTemperature, noLinearity}
+use Rattle.figures.specs.Unused.{noLinearity, noTemperature}
 use Rattle.sheet.specs.Bytes.{countAt, Bytes}
 use Rattle.sheet.specs.Read.{cellAt, temperaturePointAt, linearityPointAt, pointsAt, temperatureAt, linearityAt, systemAt, filterAt, linearityPlace, systemPlace, figuresOf}
 use Rattle.sheet.specs.Write.{cellBytes, temperaturePointBytes, linearityPointBytes, temperatureBytes, linearityBytes, systemBytes, filterBytes, sheetBytes}

@@ -6,9 +6,8 @@ use Prim.Native.Nat.{ℕ, _+_, min}
 use lib.ListN.{length}
 use borrow.Author.Tests.{ne-eqb}
 use Rattle.figures.specs.Acceptable.{Acceptable}
-use Rattle.figures.specs.Default.{noTemperature, noLinearity}
+use Rattle.figures.specs.Unused.{noLinearity, noTemperature, unusedZero}
 use Rattle.figures.specs.Representable.{Representable, Fitting}
-use Rattle.figures.specs.Unused.{unusedZero}
 use Rattle.figures.specs.declared.Calibration.{Calibration}
 use Rattle.sheet.specs.declared.Sheet.{Sheet}
 use Rattle.sheet.specs.Bytes.{countAt, Bytes}

@@ -2,7 +2,7 @@
 use mathlib.Core.List.{List, [], _∷_, _++_}
 use Prim.Native.Nat.{ℕ, zero, suc}
 use lib.ListN.{getD}
-use Rattle.figures.specs.Default.{noTemperature, noLinearity}
+use Rattle.figures.specs.Unused.{noLinearity, noTemperature}
 use Rattle.figures.specs.declared.Cell.{Cell}
 use Rattle.figures.specs.declared.TemperaturePoint.{TemperaturePoint}
 use Rattle.figures.specs.declared.Temperature.{Temperature}

@@ -3,7 +3,7 @@
 ghost use mathlib.Core.Path.{_≡_};
 ghost use Prim.Native.Nat.{_+_, _*_, _≤_, _<_, _^_};
 ghost use lib.IntN.{natAbs, negℤ, _-ℤ_};
-ghost use Rattle.figures.specs.Default.{noTemperature, noLinearity};
+ghost use Rattle.figures.specs.Unused.{noLinearity, noTemperature};
 ghost use Rattle.sheet.specs.Judge.{_then_, shortOf, notBelow, tooSteep, pointsNumber, against, countNumber, rangeNumber, cellNumber, temperaturePointNumber, temperatureNumber, linearityPointNumber, linearityNumber, systemNumber, filterNumber, sectionsNumber, sheetLength, figuresNumber};
 use crate::bytes::unsigned;
 use figures::Calibration;

@@ -1,7 +1,7 @@
 // Reading a sheet: the figures that stand at their places, and the judgement of them.
 ghost use mathlib.Core.Path.{_≡_};
 ghost use Prim.Native.Nat.{_+_, _*_, _≤_, _<_, _^_, min};
-ghost use Rattle.figures.specs.Default.{noTemperature, noLinearity};
+ghost use Rattle.figures.specs.Unused.{noLinearity, noTemperature};
 ghost use Rattle.sheet.specs.Read.{cellAt, temperaturePointAt, linearityPointAt, pointsAt, temperatureAt, linearityAt, systemAt, filterAt, linearityPlace, systemPlace, figuresOf, sheetNumber, noFigures, readSheet};
 use crate::Sheet;
 use crate::bytes::count_at;

@@ -5,7 +5,7 @@ ghost use mathlib.Core.List.{_++_};
 ghost use Prim.Native.Nat.{_+_, _*_, _≤_};
 ghost use lib.ListN.{length};
 ghost use Rattle.integers.specs.Bytes.{Put};
-ghost use Rattle.figures.specs.Default.{noTemperature, noLinearity};
+ghost use Rattle.figures.specs.Unused.{noLinearity, noTemperature};
 ghost use Rattle.sheet.specs.Bytes.{figureBytes};
 ghost use Rattle.sheet.specs.Judge.{sheetLength};
 ghost use Rattle.sheet.specs.Write.{cellBytes, temperaturePointBytes, linearityPointBytes, pointsBytes, temperatureBytes, linearityBytes, systemBytes, filterBytes, sheetBytes};

@@ -5,7 +5,8 @@ use Prim.Native.Nat.{ℕ}
 use lib.ListN.{length, drop}
 use lib.Ieee.{Float, ofBits, toBits, div, neg, round}
 use Rattle.arithmetic.specs.Round.{roundDiv, floorDiv}
-use Rattle.binary32.specs.Received.{takes, nearest, counted, Computable}
+use Rattle.binary32.specs.Received.{takes, nearest, counted}
+use Rattle.binary32.specs.ForCode.{Computable}
 use Rattle.binary32.specs.declared.received.Range.{Range}
 use Rattle.binary32.specs.Sent.{countFloat}
 use Rattle.binary32.specs.Wire.{wireBytes}

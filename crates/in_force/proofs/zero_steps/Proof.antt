@@ -1,7 +1,7 @@
 -- `in_force::zero_steps` meets its contract. Assumes nothing.
 use mathlib.Core.Path.{_≡_}
 use Rattle.integers.proofs.Machine.{held}
-use Rattle.binary32.specs.Received.{Computable}
+use Rattle.binary32.specs.ForCode.{Computable}
 use Rattle.binary32.specs.declared.received.Range.{Range}
 use Rattle.register.specs.Number.{SZ}
 use Rattle.register.specs.Register.{rangeOf}

@@ -5,7 +5,7 @@ use mir.Syntax.{w64}
 use mir.Val.{toZ, ofZ}
 use mir.Facts.{toZ-ofZ}
 use borrow.Author.Needs.{needs, sfits-of}
-use Rattle.figures.specs.Default.{noTemperature}
+use Rattle.figures.specs.Unused.{noTemperature}
 use Rattle.panel.specs.Figure.{temperaturePointWith}
 use Rattle.panel.proofs.Numbered.{spelled}
 use Rattle.panel.proofs.temperature_points_with.Statement.{statement}

@@ -2,8 +2,8 @@
 use mathlib.Core.Path.{_≡_}
 use lib.ListN.{length}
 use borrow.Author.Needs.{needs}
-use Rattle.figures.specs.Default.{noLinearity}
-use Rattle.panel.specs.Figure.{usedAt}
+use Rattle.figures.specs.Unused.{noLinearity}
+use Rattle.panel.specs.ForCode.{usedAt}
 use Rattle.panel.proofs.Numbered.{spelled, used-numbered}
 use Rattle.panel.proofs.used_linearities.Statement.{statement}
 use Rattle.panel.proofs.used_linearities.Tie as tie

@@ -5,11 +5,13 @@ use lib.IntN.{ℤ}
 use lib.Ieee.{Float}
 use Rattle.integers.proofs.Machine.{held}
 use Rattle.figures.specs.declared.Calibration.{Calibration}
-use Rattle.binary32.specs.Received.{counted, Computable}
+use Rattle.binary32.specs.Received.{counted}
+use Rattle.binary32.specs.ForCode.{Computable}
 use Rattle.binary32.specs.declared.received.Range.{Range}
 use Rattle.register.specs.Register.{rangeOf}
 use Rattle.register.proofs.Registers.{range-computable}
-use Rattle.panel.specs.Figure.{withFigure, written, Counts}
+use Rattle.panel.specs.Figure.{withFigure, written}
+use Rattle.panel.specs.ForCode.{Counts}
 use Rattle.panel.proofs.Places.{counts-written}
 use borrow.Author.Needs.{needs}
 use Rattle.panel.proofs.write.Statement.{statement}

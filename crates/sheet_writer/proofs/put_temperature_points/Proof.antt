@@ -1,6 +1,6 @@
 -- Invariant: the points before are written. Assumes nothing.
 use Prim.Native.Nat.{_*_, _+_, _-_, _≤_}
-use Rattle.figures.specs.Default.{noTemperature}
+use Rattle.figures.specs.Unused.{noTemperature}
 use Rattle.integers.proofs.Puts.{_then_, nothing, reads, size, upto}
 use Rattle.sheet_writer.proofs.Pieces.{points-bytes-next}
 use Rattle.sheet.specs.Write.{pointsBytes, temperaturePointBytes}

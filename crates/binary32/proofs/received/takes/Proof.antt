@@ -14,7 +14,8 @@ use mir.Syntax.{w64}
 use mir.Val.{SFits, ofZ, hbits}
 use mir.Facts.{toZ-ofZ}
 use Rattle.integers.proofs.Order.{lt-yes, lt-no, yes-le, no-le}
-use Rattle.binary32.specs.Received.{takes, Computable}
+use Rattle.binary32.specs.Received.{takes}
+use Rattle.binary32.specs.ForCode.{Computable}
 use Rattle.binary32.specs.Units.{units, unitsOf}
 use Rattle.binary32.specs.declared.received.Range.{Range}
 use Rattle.binary32.proofs.Counted.{takes-is, inUnits, wholeUnits, units-top, low-bits, least-fits, most-fits, least-units-fit, most-units-fit}

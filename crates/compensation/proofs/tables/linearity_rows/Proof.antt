@@ -2,7 +2,7 @@
 use mathlib.Core.Path.{_≡_}
 use lib.ListN.{length}
 use Rattle.figures.specs.Acceptable.{linearityRow}
-use Rattle.figures.specs.Default.{noLinearity}
+use Rattle.figures.specs.Unused.{noLinearity}
 use Rattle.compensation.proofs.Spell.{spelled}
 use borrow.Author.Needs.{needs}
 use Rattle.compensation.proofs.tables.linearity_rows.Statement.{statement}

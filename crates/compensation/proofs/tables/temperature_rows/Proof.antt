@@ -2,7 +2,7 @@
 use mathlib.Core.Path.{_≡_}
 use lib.ListN.{length}
 use Rattle.figures.specs.Acceptable.{temperatureRow}
-use Rattle.figures.specs.Default.{noTemperature}
+use Rattle.figures.specs.Unused.{noTemperature}
 use Rattle.compensation.proofs.Spell.{spelled}
 use borrow.Author.Needs.{needs}
 use Rattle.compensation.proofs.tables.temperature_rows.Statement.{statement}

@@ -6,7 +6,7 @@ use mathlib.Core.Bool.{cond}
 use Prim.Native.Nat.{ℕ, _*_, _/_, _%_}
 use lib.Dec.{eqb}
 use Rattle.integers.proofs.Order.{pick}
-use Rattle.binary32.specs.Received.{Computable}
+use Rattle.binary32.specs.ForCode.{Computable}
 use Rattle.register.specs.Number.{SZ}
 use Rattle.register.specs.Register.{accessOf, rangeIn}
 use Rattle.register.specs.declared.Access.the-variants.{Unlisted}

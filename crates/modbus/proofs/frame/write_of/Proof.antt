@@ -4,7 +4,7 @@ use mathlib.Core.Bool.{Bool, cond}
 use Prim.Native.Nat.{ℕ}
 use borrow.Author.Needs.{needs}
 use lib.Ieee.{Float}
-use Rattle.binary32.specs.Received.{Computable}
+use Rattle.binary32.specs.ForCode.{Computable}
 use Rattle.register.specs.declared.Access.{Access}
 use Rattle.modbus.specs.declared.frame.Frame.the-variants.{Write, Refused}
 use Rattle.register.specs.Register.{rangeIn}

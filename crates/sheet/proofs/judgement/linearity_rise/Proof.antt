@@ -1,6 +1,6 @@
 -- The first point has none before it. Assumes nothing.
 use Prim.Native.Nat.{_-_}
-use Rattle.figures.specs.Default.{noLinearity}
+use Rattle.figures.specs.Unused.{noLinearity}
 use Rattle.sheet.proofs.Chain.{against-later}
 use lib.ListN.{getD}
 use mathlib.Core.Path.{_∙_, _≡_, sym}

@@ -1,5 +1,5 @@
 -- The first point has none before it. Assumes nothing.
-use Rattle.figures.specs.Default.{noLinearity}
+use Rattle.figures.specs.Unused.{noLinearity}
 use Rattle.sheet.proofs.Chain.{against-later}
 use mathlib.Core.Path.{_∙_, sym}
 use borrow.Author.Needs.{needs}

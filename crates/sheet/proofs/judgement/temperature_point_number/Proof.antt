@@ -1,5 +1,5 @@
 -- The number of each figure is its definition's, and the first fault counts. Assumes nothing.
-use Rattle.figures.specs.Default.{noTemperature}
+use Rattle.figures.specs.Unused.{noTemperature}
 use Rattle.sheet.specs.Judge.{_then_, temperaturePointNumber}
 use lib.ListN.{getD}
 use mathlib.Core.Path.{_∙_, _≡_, ap₂}

@@ -1,6 +1,6 @@
 -- Invariant: the points before are filled in. Assumes nothing.
 use Prim.Native.Nat.{_-_, _≤_}
-use Rattle.figures.specs.Default.{noTemperature}
+use Rattle.figures.specs.Unused.{noTemperature}
 use Rattle.sheet.proofs.Chain.{points-at-next}
 use Rattle.sheet.specs.Read.{pointsAt, temperaturePointAt}
 use mathlib.Core.Path.{_∙_, _≡_, ap, refl, sym}

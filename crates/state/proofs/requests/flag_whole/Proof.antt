@@ -9,7 +9,8 @@ use mir.Syntax.{w16}
 use mir.Val.{Fits}
 use Rattle.integers.proofs.Difference.{nat, le?}
 use Rattle.integers.proofs.Machine.{held}
-use Rattle.binary32.specs.Received.{counted, Computable}
+use Rattle.binary32.specs.Received.{counted}
+use Rattle.binary32.specs.ForCode.{Computable}
 use Rattle.binary32.specs.declared.received.Range.{Range}
 use Rattle.binary32.proofs.Counted.{counted-up}
 use Rattle.register.specs.Number.{FLAG}
