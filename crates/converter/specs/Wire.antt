@@ -29,7 +29,7 @@ Sends d r x = let station = d .setup .station in Gets d (readRequest station r) 
 -- or is refused with n: "exception, 5 bytes: station, function with its top bit set, code, checksum. Code .. 2 for 15, 11, and 10 on a
 -- read"
 abbrev pub Withholds : Device → ℕ → ℕ → Type 0
-Withholds d r n = let station = d .setup .station in Gets d (readRequest station r) n (framed (station ∷ 3 + 128 ∷ 2 ∷ []))
+Withholds d r n = let station = d .setup .station in Gets d (readRequest station r) n (framed (station ∷ (3 + 128) ∷ 2 ∷ []))
 
 -- ---- a write of x to register r, to the device's station and to all: "Station 0 is broadcast: writes act, nothing is replied, faults
 -- keep their number"
@@ -45,7 +45,7 @@ pub record Obeys (d : Device) (r : ℕ) (x : Float) (f : Frame) : Type 0 where
 
 -- or refused with n: "No refusal changes a device"
 pub record Rejects (d : Device) (r : ℕ) (x : Float) (n code : ℕ) : Type 0 where
-  pub told : let station = d .setup .station in Gets d (writeRequest station r x) n (framed (station ∷ 16 + 128 ∷ code ∷ []))
+  pub told : let station = d .setup .station in Gets d (writeRequest station r x) n (framed (station ∷ (16 + 128) ∷ code ∷ []))
   pub broadcast : Gets d (writeRequest 0 r x) n []
   pub does : Leaves d r x d
 

@@ -9,7 +9,7 @@ use Rattle.vectors.proofs.frames.asks.Tie as tie
 expect-requires : tie.Need-expect-requires
 expect-requires c κs =
     let same = c .before .before .judge .ensures ∙ c .before .before .before .before .pre in
-    eq-eqb _ _ (c .before .asked-number .ensures ∙ (ap askedNumber same ∙ sym (c .number-of2 .ensures)))
+    eq-eqb _ _ (c .before .asked-number .ensures ∙ (ap askedNumber same ∙ sym (c .asked-number2 .ensures)))
 
 expect-requires-2 : tie.Need-expect-requires-2
 expect-requires-2 c κs =
