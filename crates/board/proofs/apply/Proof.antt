@@ -71,8 +71,8 @@ module _ {M : Type 1} (𝓤 : URA M) (H : Heap 𝓤) (A : Atoms 𝓤) (W : Given
         -- [the record's cell; the open borrow; obs; auth; true; _5; …; _1; …; room for _0; …]
         copies ! 0 refl (sz-in h ! was) (look ! 13 refl) (init ! 9 refl) $ copies ! 0 refl (copy-in h ! was) (look ! 13 refl) (init ! 7 refl) $
         calls-plain ! fm offer (known-of .0) (tt, tt, tt, (sz, (h .setup .copy, tt)), (number sz ∷ [], (mach-figures (h .setup .copy) ∷ [], tt))) tt (id⊢ 𝓤 _) (sz-is h was, (copy-is h was, tt)) (id⊢ 𝓤 _) (λ c. c ≡ offered sz (h .setup .copy)) (λ c e. id⊢ 𝓤 _)
-        (local ! 10 refl (local ! 8 refl (no-more !))) 11 refl refl (λ vc c is c-is.
-        calls-plain ! fm is-accepted (known-of .1 .0) (tt, tt, tt, (c, tt), (vc ∷ [], tt)) tt (id⊢ 𝓤 _) (c-is, tt) (id⊢ 𝓤 _) (λ d. d ≡ accepted c) (λ d e. id⊢ 𝓤 _) (local ! 12 refl (no-more !)) 5 refl refl (λ vd d fits d-is. first ! $ branches-on ! (look ! 5 refl) d-is fits
+        (local ! 16 refl (local ! 16 refl (no-more !))) 11 refl refl (λ vc c is c-is.
+        calls-plain ! fm is-accepted (known-of .1 .0) (tt, tt, tt, (c, tt), (vc ∷ [], tt)) tt (id⊢ 𝓤 _) (c-is, tt) (id⊢ 𝓤 _) (λ d. d ≡ accepted c) (λ d e. id⊢ 𝓤 _) (local ! 16 refl (no-more !)) 5 refl refl (λ vd d fits d-is. first ! $ branches-on ! (look ! 5 refl) d-is fits
         (λ fits. assigns ! (of-opd ! (load ! (from ! (stop !)) (look ! 11 refl))) (from ! (hop ! (look ! 13 refl) (fld ! setup-at (fld ! figures-at (stop !))))) (stores-figures ! 0 h refl was c c-is) $
         assigns ! (of-opd ! (true-lit !)) (from ! (stop !)) (init ! 15 refl (tt, tt)) $ closes-record device ! tt (refigure h c) (refigured h was c c-is) $
         returns-within ! Post refl (look ! 14 refl) $ frees-all ! 4 (some _ ∷ some _ ∷ some _ ∷ some _ ∷ some _ ∷ some _ ∷ []) refl $
