@@ -15,9 +15,9 @@ use Rattle.converter.proofs.Entries.{unobeyed}
 use Rattle.converter.proofs.Device as D
 use Rattle.walks.proofs.Walk.{none, some, _≡_, refl, sym, ℕ, [], _∷_, List, URA, named, Val, vbool, vptr, SProp, ent, id⊢, emp, via, fst∗, GName, Lft, Share}
 use Rattle.walks.proofs.Walk.{ftrue, flft, fres, Memory, Routine, Heap, Calls, Loops, WpFn, Atoms, Fun, givenOf, Given, group, ‵, _⊛_, ⋆, _$_, _∵_, !, qed, by, move, keep}
-use Rattle.walks.proofs.Walk.{drop, split, fsplit, fsplit3, fjoin, suffices, frame, done, true-lit, false-lit, look, init, stop, hop, from, addr, of-opd, no-more, assigns, first, returns, returns-within, enter, alloc1, alloc0, params1, pass1, pass0, FmC, owns, Is, bool, bool-makes}
+use Rattle.walks.proofs.Walk.{drop, split, fsplit, fsplit3, fjoin, suffices, frame, done, look, init, stop, hop, from, addr, of-opd, no-more, assigns, first, returns, returns-within, enter, alloc1, alloc0, params1, pass1, pass0, FmC, owns, Is, bool, bool-makes}
 use Rattle.walks.proofs.Walk.{RefT, MutRef, ptr-vals, mut-tells, plain, owned, nothing, onEntry, gave-ref, goes-gave-ref, says, Stays, walkOf, AllGo, Walks, ends-at, walked, stay-none, goes-none, yes}
-use Rattle.walks.proofs.Call.{Callee, AllKnown, calls-out, calls-plain, local}
+use Rattle.walks.proofs.Call.{Callee, AllKnown, calls-out, calls-plain, local, flag}
 use Rattle.board.proofs.Callees.{applies, is-obeyed}
 use Rattle.board.proofs.Handed.{apply, to-apply, apply-asks, store, to-store, store-asks}
 use Rattle.walks.proofs.Branch.{branches-on, skips-to}
@@ -95,9 +95,9 @@ module _ {M : Type 1} (𝓤 : URA M) (H : Heap 𝓤) (A : Atoms 𝓤) (W : Given
         -- [what `store` asks; true; _8; …]
         calls-out ! fm store (known-of .1 .1 .1 .0) (to-store 𝓤 H A κ q b o γ h a va) tt (store-asks 𝓤 H A W at-mem run κ q b o γ h a va a-is free) (λ u ds. ds .0 ≡ obeyed h a) (λ u ds. id⊢ 𝓤 _)
         (local ! 18 refl (local ! 18 refl (no-more !))) 3 refl refl (λ vu u ds stored u-is. fsplit ! $ move ! (1 ∷ []) $ drop ! $
-        assigns ! (of-opd ! (true-lit !)) (from ! (stop !)) (init ! 19 refl (tt, tt)) $
+        assigns ! (of-opd ! (flag ! true tt)) (from ! (stop !)) (init ! 19 refl (tt, tt)) $
         returns-within ! Post refl (look ! 19 refl) $ frees-all ! 3 (some _ ∷ some _ ∷ some _ ∷ some _ ∷ none ∷ some _ ∷ some _ ∷ some _ ∷ some _ ∷ []) refl $ keep ! (0 ∷ 1 ∷ []) $ by ! (exits true (vbool true) (ds .0) refl (stores free does stored))))
-        (λ not-so. skips-to ! t-6 Post $ assigns ! (of-opd ! (false-lit !)) (from ! (stop !)) (init ! 21 refl (tt, tt)) $ gives-record device ! tt h was $
+        (λ not-so. skips-to ! t-6 Post $ assigns ! (of-opd ! (flag ! false tt)) (from ! (stop !)) (init ! 21 refl (tt, tt)) $ gives-record device ! tt h was $
         returns ! (look ! 19 refl) $ frees-all ! 3 (some _ ∷ some _ ∷ some _ ∷ some _ ∷ none ∷ some _ ∷ some _ ∷ []) refl $ keep ! (0 ∷ 1 ∷ []) $ by ! (exits false (vbool false) h refl (leaves free not-so))))))))))))))))
 
 module _ {M : Type 1} (𝓤 : URA M) (H : Heap 𝓤) (A : Atoms 𝓤) (W : Given 𝓤 H A) (mem : Memory → SProp 𝓤) (run : Routine → Fun 𝓤) where
