@@ -78,7 +78,7 @@ fn obey(device: &mut Device, asked: Frame) -> bool
         store(device, asked);
         return true;
     }
-    false
+    false // refused
 }
 
 // 99: the copy is put in force, where a sheet with its figures would be accepted.

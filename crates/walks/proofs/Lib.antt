@@ -5,7 +5,8 @@
 -- 1. Words (Walk). The kit's names that walks share: a walk takes them from there.
 --
 -- 2. Calls (Call). `Callee` is what a walk knows of a function that it calls: its name, its contract, and that the contract is met. A
---    call is then one step, its operands given by `local`, its result's room by a place in the context:
+--    call is then one step, its operands given by `local`, its result's room by a place in the context (`local`, `literal` and `flag` ask
+--    that an operand is the value named, so that a wrong program is refused at a value):
 --        calls-plain     the function takes plain values: what it asks is made of what is known of them
 --        calls-out       it takes what was lent: from an entry of the context that holds what it asks; last values come back
 --        gives           its contract is an equation: the local holds the machine value of what that names

@@ -18,7 +18,7 @@ pub use ghost.Atoms.{Atoms, sem}
 pub use contract.Monad.{Fun, factI}
 pub use contract.Running.{GhostRules, Running, givenOf, tables}
 pub use types.Kit.{Given, Item, group, ‵, raw, _⊛_, ⋆, _$_, _∵_, !, qed, by, move, keep, drop, use1, split, join, fsplit, fsplit3, fjoin, fjoin3, feqL, feqI, suffices, frame, done}
-pub use types.Run.{unit-lit, true-lit, false-lit, look, init, stop, hop, fld, from, load, addr, of-opd, and-then, no-more, assigns, first, returns, enter, alloc1, alloc0, params1, pass1, pass0, store, lit, returns-within, look-raw}
+pub use types.Run.{unit-lit, look, init, stop, hop, fld, from, load, addr, of-opd, and-then, no-more, assigns, first, returns, enter, alloc1, alloc0, params1, pass1, pass0, store, lit, returns-within, look-raw}
 pub use types.Part.{agg, whole, sub, look-in}
 pub use types.SemTy.{Body}
 pub use sound.WpLaws.{FmC}

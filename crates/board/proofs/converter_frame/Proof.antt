@@ -86,15 +86,15 @@ module _ {M : Type 1} (𝓤 : URA M) (H : Heap 𝓤) (A : Atoms 𝓤) (W : Given
         copies ! 0 refl (station-in h ! was) (look ! 40 refl) (init ! 30 refl) $ move ! (4 ∷ []) $ split ! $ move ! (8 ∷ []) $ use1 W (bytes 𝓤 κ₁ xf ⊛ bytes 𝓤 κ₁ xf) (shr-slice-copy 𝓤 H A W (named 0) κ₁ u8 .twice xf (slice xf ∷ [])) $ split ! $ move ! (2 ∷ 0 ∷ []) $ join ! $
         -- [the token and a copy of the frame; the frame; the reply's token; the record's cell; the open borrow; obs; auth; the reply; true; _17; …]
         calls-out ! fm judge (known-of .0) (to-judge 𝓤 H A κ₁ q₁ xf (length (xr .now)) (h .setup .station)) tt (judge-asks 𝓤 H A W at-mem run κ₁ q₁ xf (length (xr .now)) (h .setup .station) (room-r .0) (station-fits h was))
-        (λ a _. a ≡ judged (xf .now) (length (xr .now)) (h .setup .station)) (λ a _. id⊢ 𝓤 _) (local ! 39 refl (local ! 33 refl (local ! 31 refl (no-more !)))) 34 refl refl (λ va a _ asked a-is. drop ! $
-        calls-plain ! fm is-read (known-of .1 .0) (tt, tt, tt, (a, tt), (va ∷ [], tt)) tt (id⊢ 𝓤 _) (a-is, tt) (id⊢ 𝓤 _) (λ c. c ≡ isRead a) (λ c e. id⊢ 𝓤 _) (local ! 36 refl (no-more !)) 29 refl refl (λ vc c reads c-is. first ! $ branches-on ! (look ! 29 refl) c-is reads
+        (λ a _. a ≡ judged (xf .now) (length (xr .now)) (h .setup .station)) (λ a _. id⊢ 𝓤 _) (local ! 43 refl (local ! 43 refl (local ! 43 refl (no-more !)))) 34 refl refl (λ va a _ asked a-is. drop ! $
+        calls-plain ! fm is-read (known-of .1 .0) (tt, tt, tt, (a, tt), (va ∷ [], tt)) tt (id⊢ 𝓤 _) (a-is, tt) (id⊢ 𝓤 _) (λ c. c ≡ isRead a) (λ c e. id⊢ 𝓤 _) (local ! 44 refl (no-more !)) 29 refl refl (λ vc c reads c-is. first ! $ branches-on ! (look ! 29 refl) c-is reads
         (λ read. copies ! 3 refl (state-in h ! was) (look ! 41 refl) (init ! 27 refl) $ copies ! 3 refl (setup-in h ! was) (look ! 41 refl) (init ! 25 refl) $
         assigns ! (addr ! (from ! (fld ! refl (hop ! (look-in ! 37 (sub ! 0 refl (whole !))) (stop !))))) (from ! (stop !)) (init ! 23 refl (tt, tt)) $
         assigns ! (agg ! (and-then ! (load ! (from ! (stop !)) (look ! 23 refl)) (and-then ! (load ! (from ! (fld ! refl (stop !))) (look-in ! 37 (sub ! 1 refl (whole !)))) (no-more !)))) (from ! (stop !)) (init ! 21 refl (tt, (tt, (record { fits = room-r .0 }, tt)))) $
         move ! (0 ∷ 2 ∷ []) $ join ! $ move ! (0 ∷ 1 ∷ 6 ∷ []) $ group ! 3 $
         -- [what `answer` asks; the record's cell; the open borrow; obs; auth; true; _17; …]
         calls-out ! fm answer (known-of .1 .1 .0) (to-answer 𝓤 H A κ₁ κ₂ q₁ q₂ xf xr h a va) tt (answer-asks 𝓤 H A W at-mem run κ₁ κ₂ q₁ q₂ xf xr h a va read reached was a-is)
-        (λ r zs. Delivers (answerOf (h .state) (h .setup) a) (xf .now) (xr .now) (zs .1 .1 .1 .1 .0) r) (λ r zs. id⊢ 𝓤 _) (local ! 24 refl (local ! 22 refl (local ! 32 refl (local ! 36 refl (local ! 18 refl (no-more !)))))) 39 refl refl (λ w r zs e r-is.
+        (λ r zs. Delivers (answerOf (h .state) (h .setup) a) (xf .now) (xr .now) (zs .1 .1 .1 .1 .0) r) (λ r zs. id⊢ 𝓤 _) (local ! 40 refl (local ! 40 refl (local ! 40 refl (local ! 40 refl (local ! 40 refl (no-more !)))))) 39 refl refl (λ w r zs e r-is.
         -- of the last values only the reply's says anything: its list, and that it is as long as the one lent
         fsplit ! $ drop ! $ fsplit ! $ drop ! $ fsplit ! $ drop ! $ fsplit ! $ drop ! $ fsplit ! $ fsplit ! $ move ! (1 ∷ []) $ feqL ! (λ l. move ! (2 ∷ []) $
         -- [the other tokens; the last list; true; the record's cell; the open borrow; obs; auth; true; _17; …]
@@ -105,7 +105,7 @@ module _ {M : Type 1} (𝓤 : URA M) (H : Heap 𝓤) (A : Atoms 𝓤) (W : Given
         (λ no-read. skips-to ! t-6 Post $ assigns ! (addr ! (from ! (hop ! (look ! 41 refl) (stop !)))) (from ! (stop !)) (init ! 17 refl (tt, tt)) $ move ! (3 ∷ 4 ∷ 5 ∷ 6 ∷ []) $ closes-record device ! tt h was $ group ! 3 $
         -- [what `obey` asks; the frame's token; the frame; the reply's token; the reply; true; _17; …]
         calls-out ! fm obey (known-of .1 .1 .1 .0) (to-obey 𝓤 H A κ q b o γ h a va) tt (obey-asks 𝓤 H A W at-mem run κ q b o γ h a va a-is) (λ d ds. (d ≡ obeys (h .state) (h .setup) a) × (ds .0 ≡ obeyed h a)) (λ d ds. id⊢ 𝓤 _)
-        (local ! 14 refl (local ! 32 refl (no-more !))) 15 refl refl (λ vd d ds told d-is. fsplit ! $ move ! (1 ∷ []) $ drop ! $
+        (local ! 40 refl (local ! 40 refl (no-more !))) 15 refl refl (λ vd d ds told d-is. fsplit ! $ move ! (1 ∷ []) $ drop ! $
         -- [the record's last value; its token; the frame's token; the frame; the reply's token; the reply; true; _17; …]
         first ! $ branches-on ! (look ! 17 refl) d-is (told .0)
         (λ done-so. assigns ! (addr ! (from ! (fld ! refl (hop ! (look-in ! 35 (sub ! 0 refl (whole !))) (stop !))))) (from ! (stop !)) (init ! 13 refl (tt, tt)) $
@@ -113,7 +113,7 @@ module _ {M : Type 1} (𝓤 : URA M) (H : Heap 𝓤) (A : Atoms 𝓤) (W : Given
         move ! (2 ∷ 4 ∷ []) $ join ! $ move ! (0 ∷ 3 ∷ 4 ∷ []) $ group ! 3 $
         -- [what `acknowledge` asks; the record's last value; its token; true; _17; …]
         calls-out ! fm acknowledge (known-of .1 .1 .1 .1 .0) (to-acknowledge 𝓤 H A κ₁ κ₂ q₁ q₂ xf xr) tt (acknowledge-asks 𝓤 H A W at-mem run κ₁ κ₂ q₁ q₂ xf xr) (λ r zs. Delivers Done (xf .now) (xr .now) (zs .1 .0) r) (λ r zs. id⊢ 𝓤 _)
-        (local ! 34 refl (local ! 8 refl (no-more !))) 37 refl refl (λ w r zs e r-is. fsplit ! $ drop ! $ fsplit ! $ fsplit ! $ move ! (1 ∷ []) $ feqL ! (λ l. move ! (2 ∷ []) $
+        (local ! 38 refl (local ! 38 refl (no-more !))) 37 refl refl (λ w r zs e r-is. fsplit ! $ drop ! $ fsplit ! $ fsplit ! $ move ! (1 ∷ []) $ feqL ! (λ l. move ! (2 ∷ []) $
         -- [the other tokens; the last list; true; the record's last value; its token; true; _17; …]
         returns-within ! Post refl (look ! 40 refl) $ frees-all ! 6 (some _ ∷ some _ ∷ some _ ∷ some _ ∷ some _ ∷ some _ ∷ some _ ∷ some _ ∷ none ∷ none ∷ none ∷ none ∷ some _ ∷ some _ ∷ some _ ∷ some _ ∷ []) refl $
         keep ! (3 ∷ 4 ∷ 0 ∷ 1 ∷ []) $ by ! (exits r w (ds .0) (zs .1 .0) r-is (serves reached (xf .now) (xr .now) (zs .1 .0) asked (answer-obeyed (h .state) (h .setup) a done-so) e (told .1)) l))))
@@ -123,7 +123,7 @@ module _ {M : Type 1} (𝓤 : URA M) (H : Heap 𝓤) (A : Atoms 𝓤) (W : Given
         move ! (2 ∷ 4 ∷ []) $ join ! $ move ! (0 ∷ 3 ∷ 4 ∷ []) $ group ! 3 $
         -- [what `refuse` asks; the record's last value; its token; true; _17; …]
         calls-out ! fm refuse (known-of .1 .1 .1 .1 .1 .0) (to-refuse 𝓤 H A κ₁ κ₂ q₁ q₂ xf xr a va) tt (refuse-asks 𝓤 H A W at-mem run κ₁ κ₂ q₁ q₂ xf xr a va a-is) (λ r zs. Delivers (Refused (refusalOf a)) (xf .now) (xr .now) (zs .1 .1 .0) r) (λ r zs. id⊢ 𝓤 _)
-        (local ! 30 refl (local ! 34 refl (local ! 4 refl (no-more !)))) 37 refl refl (λ w r zs e r-is. fsplit ! $ drop ! $ fsplit ! $ drop ! $ fsplit ! $ fsplit ! $ move ! (1 ∷ []) $ feqL ! (λ l. move ! (2 ∷ []) $
+        (local ! 38 refl (local ! 38 refl (local ! 38 refl (no-more !)))) 37 refl refl (λ w r zs e r-is. fsplit ! $ drop ! $ fsplit ! $ drop ! $ fsplit ! $ fsplit ! $ move ! (1 ∷ []) $ feqL ! (λ l. move ! (2 ∷ []) $
         returns ! (look ! 40 refl) $ frees-all ! 6 (some _ ∷ some _ ∷ some _ ∷ some _ ∷ some _ ∷ some _ ∷ some _ ∷ some _ ∷ none ∷ none ∷ none ∷ none ∷ some _ ∷ some _ ∷ none ∷ none ∷ some _ ∷ some _ ∷ []) refl $
         keep ! (3 ∷ 4 ∷ 0 ∷ 1 ∷ []) $ by ! (exits r w (ds .0) (zs .1 .1 .0) r-is (serves reached (xf .now) (xr .now) (zs .1 .1 .0) asked (answer-refused (h .state) (h .setup) a no-read not-so) e (told .1)) l)))))))))))))))))))))))))))
 

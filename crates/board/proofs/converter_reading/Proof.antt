@@ -20,10 +20,10 @@ use Rattle.converter.specs.declared.Outcome.{Outcome}
 use Rattle.converter.proofs.Entries.{refuses, filters, adjusts, corrects, scales, joins}
 use Rattle.converter.proofs.Device as D
 use Rattle.walks.proofs.Walk.{none, some, _≡_, refl, ℕ, _<_, _^_, [], _∷_, List, lit<, ℤ, URA, named, w8, w64, Val, vint, vptr, ofZ, SProp, ent, sep, emp, id⊢, GName, Lft, Share, ftrue, flft, fobs, fbor, Memory, Routine, Heap, Calls, Loops, WpFn, Atoms, Fun, factI, givenOf, Given, ‵, _⊛_}
-use Rattle.walks.proofs.Walk.{_$_, _∵_, !, qed, by, move, keep, drop, split, join, fsplit, fsplit3, fjoin, fjoin3, feqI, suffices, frame, done, look, init, stop, hop, fld, from, load, lit, of-opd, no-more, assigns, first, returns, returns-within, enter, alloc1, alloc0, params1, pass1}
+use Rattle.walks.proofs.Walk.{_$_, _∵_, !, qed, by, move, keep, drop, split, join, fsplit, fsplit3, fjoin, fjoin3, feqI, suffices, frame, done, look, init, stop, hop, fld, from, load, of-opd, no-more, assigns, first, returns, returns-within, enter, alloc1, alloc0, params1, pass1}
 use Rattle.walks.proofs.Walk.{pass0, store, Body, FmC, owns, Is, mem, uint-vals, uint-tells, uint-makes, sint-vals, sint-tells, sint-makes, sint-lawful, u8, i64, RefT, MutRef, ptr-vals, mut-tells, plain, owned, nothing, onEntry, says, needs, Stays, stay-ref, stay-none, walkOf, AllGo}
 use Rattle.walks.proofs.Walk.{goes-none, goes-ref, Walks, ends-at, walked, yes}
-use Rattle.walks.proofs.Call.{Callee, AllKnown, calls-plain, local}
+use Rattle.walks.proofs.Call.{Callee, AllKnown, calls-plain, local, literal}
 use Rattle.board.proofs.Callees.{bad-reading, held-after, input-at, cell-values, values-from, take}
 use Rattle.walks.proofs.Branch.{branches-on, skips-to}
 use Rattle.walks.proofs.Entered.{walk-entered}
@@ -75,8 +75,8 @@ module _ {M : Type 1} (𝓤 : URA M) (H : Heap 𝓤) (A : Atoms 𝓤) (W : Given
         move ! (37 ∷ []) $ fsplit ! $ fsplit3 ! $ drop ! $ move ! (2 ∷ []) $ drop ! $ move ! (38 ∷ []) $ split ! $ move ! (2 ∷ 3 ∷ 0 ∷ []) $
         -- [obs; the borrow; its token; true; _17; …; _1; …; room for _0; …]
         calls-plain ! fm bad-reading (known-of .0) (tt, tt, tt, (z, (t, (n, tt))), numbers) tt (id⊢ 𝓤 _) (z-is, (t-is, ((refl, n-fits), tt))) (id⊢ 𝓤 _) (λ r. r ≡ badReading z t n) (λ r e. id⊢ 𝓤 _)
-        (local ! 35 refl (local ! 33 refl (local ! 31 refl (no-more !)))) 20 refl refl (λ v bad bad-is is. first ! $ branches-on ! (look ! 20 refl) is bad-is
-        (λ held. assigns ! (of-opd ! (lit ! tt)) (from ! (stop !)) (init ! 38 refl (tt, record { fits = lit< tt })) $
+        (local ! 39 refl (local ! 39 refl (local ! 39 refl (no-more !)))) 20 refl refl (λ v bad bad-is is. first ! $ branches-on ! (look ! 20 refl) is bad-is
+        (λ held. assigns ! (of-opd ! (literal ! 9 tt tt)) (from ! (stop !)) (init ! 38 refl (tt, record { fits = lit< tt })) $
         returns-within ! Post refl (look ! 38 refl) $ frees-all ! 4 (some _ ∷ some _ ∷ some _ ∷ some _ ∷ some _ ∷ none ∷ none ∷ none ∷ none ∷ some _ ∷ []) refl $
         keep ! (0 ∷ 1 ∷ 2 ∷ []) $ by ! (exits (record { number = 9; device = h }) (lit< tt) (refuses reached z t n held)))
         (λ good. skips-to ! t-3 Post $ opens-record device ! tt h (λ was.
@@ -84,26 +84,26 @@ module _ {M : Type 1} (𝓤 : URA M) (H : Heap 𝓤) (A : Atoms 𝓤) (W : Given
         copies ! 0 refl (filter-in h ! was) (look ! 37 refl) (init ! 19 refl) $ copies ! 0 refl (readings-in h ! was) (look ! 37 refl) (init ! 17 refl) $
         calls-plain ! fm held-after (known-of .1 .0) (tt, tt, tt, (h .setup .figures .filter, (h .state .readings, (z, tt))), (mach-filter (h .setup .figures .filter) ∷ [], (mach-readings (h .state .readings) ∷ [], (number z ∷ [], tt)))) tt (id⊢ 𝓤 _)
         (five-is h was .1 .1 .1 .1 .0, (readings-is h was, (z-is, tt))) (factI 𝓤 _ (emp 𝓤) (filters reached z t n good)) (λ k. k ≡ heldAfter (h .setup .figures) (h .state .readings) z) (λ k e. id⊢ 𝓤 _)
-        (local ! 20 refl (local ! 18 refl (local ! 36 refl (no-more !)))) 29 refl refl (λ vk k k-is k-fits.
+        (local ! 40 refl (local ! 40 refl (local ! 40 refl (no-more !)))) 29 refl refl (λ vk k k-is k-fits.
         copies ! 0 refl (temperature-in h ! was) (look ! 37 refl) (init ! 15 refl) $
         calls-plain ! fm input-at (known-of .1 .1 .0) (tt, tt, tt, (h .setup .figures .temperature, (k, (t, tt))), (mach-temperature (h .setup .figures .temperature) ∷ [], (vk ∷ [], (number t ∷ [], tt)))) tt (id⊢ 𝓤 _)
         (five-is h was .1 .0, (k-fits, (t-is, tt))) (factI 𝓤 _ (emp 𝓤) (adjusts reached z t n good)) (λ i. i ≡ inputAt (h .setup .figures .temperature) k t) (λ i e. id⊢ 𝓤 _)
-        (local ! 16 refl (local ! 30 refl (local ! 34 refl (no-more !)))) 27 refl refl (λ vi i i-is i-fits.
+        (local ! 40 refl (local ! 40 refl (local ! 40 refl (no-more !)))) 27 refl refl (λ vi i i-is i-fits.
         copies ! 0 refl (cell-in h ! was) (look ! 37 refl) (init ! 13 refl) $ copies ! 0 refl (linearity-in h ! was) (look ! 37 refl) (init ! 11 refl) $
         calls-plain ! fm cell-values (known-of .1 .1 .1 .0) (tt, tt, tt, (h .setup .figures .cell, (h .setup .figures .linearity, (i, tt))), (mach-cell (h .setup .figures .cell) ∷ [], (mach-linearity (h .setup .figures .linearity) ∷ [], (vi ∷ [], tt)))) tt (id⊢ 𝓤 _)
         (five-is h was .0, (five-is h was .1 .1 .0, (i-fits, tt))) (factI 𝓤 _ (emp 𝓤) (corrects reached z t n good k-is i-is)) (λ c. c ≡ cellValuesAt (h .setup .figures .cell) (h .setup .figures .linearity) i) (λ c e. id⊢ 𝓤 _)
-        (local ! 14 refl (local ! 12 refl (local ! 28 refl (no-more !)))) 25 refl refl (λ vc c c-is c-fits.
+        (local ! 40 refl (local ! 40 refl (local ! 40 refl (no-more !)))) 25 refl refl (λ vc c c-is c-fits.
         copies ! 0 refl (cell-in h ! was) (look ! 37 refl) (store ! 13 refl) $ copies ! 0 refl (system-in h ! was) (look ! 37 refl) (init ! 9 refl) $
         calls-plain ! fm values-from (known-of .1 .1 .1 .1 .0)
         (tt, tt, tt, (h .setup .figures .cell, (h .setup .figures .system, (c, (k, (t, (n, tt)))))), (mach-cell (h .setup .figures .cell) ∷ [], (mach-system (h .setup .figures .system) ∷ [], (vc ∷ [], (vk ∷ [], (number t ∷ [], (vint w8 n ∷ [], tt))))))) tt (id⊢ 𝓤 _)
         (five-is h was .0, (five-is h was .1 .1 .1 .0, (c-fits, (k-fits, (t-is, ((refl, n-fits), tt)))))) (factI 𝓤 _ (emp 𝓤) (scales reached z t n good k-is i-is c-is)) (λ w. w ≡ valuesFrom (h .setup .figures .cell) (h .setup .figures .system) c k t n) (λ w e. id⊢ 𝓤 _)
-        (local ! 14 refl (local ! 10 refl (local ! 26 refl (local ! 30 refl (local ! 34 refl (local ! 32 refl (no-more !))))))) 23 refl refl (λ vw w w-is w-fits.
+        (local ! 40 refl (local ! 40 refl (local ! 40 refl (local ! 40 refl (local ! 40 refl (local ! 40 refl (no-more !))))))) 23 refl refl (λ vw w w-is w-fits.
         copies ! 0 refl (state-in h ! was) (look ! 37 refl) (init ! 5 refl) $
         calls-plain ! fm take (known-of .1 .1 .1 .1 .1 .0) (tt, tt, tt, (h .state, (k, (t, (w, tt)))), (mach-state (h .state) ∷ [], (vk ∷ [], (number t ∷ [], (vw ∷ [], tt))))) tt (id⊢ 𝓤 _)
         (state-is h was, (k-fits, (t-is, (w-fits, tt)))) (id⊢ 𝓤 _) (λ r. r ≡ stateAfterValues (h .state) k t w) (λ r e. id⊢ 𝓤 _)
-        (local ! 6 refl (local ! 30 refl (local ! 34 refl (local ! 24 refl (no-more !))))) 7 refl refl (λ vr r r-is state.
+        (local ! 40 refl (local ! 40 refl (local ! 40 refl (local ! 40 refl (no-more !))))) 7 refl refl (λ vr r r-is state.
         assigns ! (of-opd ! (load ! (from ! (stop !)) (look ! 7 refl))) (from ! (hop ! (look ! 37 refl) (fld ! state-at (stop !)))) (stores-state ! 0 h refl was r state) $
-        assigns ! (of-opd ! (lit ! tt)) (from ! (stop !)) (init ! 39 refl (tt, record { fits = lit< tt })) $ closes-record device ! tt (restate h r) (restated h was r state) $
+        assigns ! (of-opd ! (literal ! 0 tt tt)) (from ! (stop !)) (init ! 39 refl (tt, record { fits = lit< tt })) $ closes-record device ! tt (restate h r) (restated h was r state) $
         returns ! (look ! 38 refl) $ frees-all ! 4 (some _ ∷ some _ ∷ some _ ∷ some _ ∷ some _ ∷ some _ ∷ some _ ∷ some _ ∷ some _ ∷ some _ ∷ some _ ∷ some _ ∷ some _ ∷ some _ ∷ some _ ∷ some _ ∷ some _ ∷ some _ ∷ []) refl $
         keep ! (0 ∷ 1 ∷ 2 ∷ []) $ by ! (exits (record { number = 0; device = restate h r }) (lit< tt) (joins reached z t n good k-is i-is c-is w-is r-is))))))))))))))))))))))))))))
 

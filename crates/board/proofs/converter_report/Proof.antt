@@ -58,7 +58,7 @@ module _ {M : Type 1} (𝓤 : URA M) (H : Heap 𝓤) (A : Atoms 𝓤) (W : Given
         assigns ! (of-opd ! (load ! (from ! (hop ! (look ! 9 refl) (stop !))) (look-raw ! 0 refl))) (from ! (stop !)) (init ! 7 refl (typed 𝓤 H A W h was)) $
         shuts ! tt D.the-row q′ h (mach h ∷ []) b o $
         -- [the token; the borrow; true; res; true; _2; …; _1; …; room for _0; …]
-        calls-plain ! fm report (known .0) (tt, tt, tt, (h, tt), (mach h ∷ [], tt)) tt (id⊢ 𝓤 _) (was, tt) (factI 𝓤 _ (emp 𝓤) reached) Said (λ r e. id⊢ 𝓤 _) (local ! 6 refl (no-more !)) 9 refl refl (λ v r e is.
+        calls-plain ! fm report (known .0) (tt, tt, tt, (h, tt), (mach h ∷ [], tt)) tt (id⊢ 𝓤 _) (was, tt) (factI 𝓤 _ (emp 𝓤) reached) Said (λ r e. id⊢ 𝓤 _) (local ! 10 refl (no-more !)) 9 refl refl (λ v r e is.
         returns ! (look ! 9 refl) $ frees-all ! 5 (some _ ∷ some _ ∷ some _ ∷ []) refl $
         keep ! (0 ∷ 3 ∷ 1 ∷ []) $ by ! (exits r v is e)))))))
 

@@ -15,9 +15,9 @@ use Rattle.converter.proofs.Entries.{unobeyed}
 use Rattle.converter.proofs.Device as D
 use Rattle.walks.proofs.Walk.{none, some, _≡_, refl, sym, ℕ, [], _∷_, List, URA, named, Val, vbool, vptr, SProp, ent, id⊢, emp, via, fst∗, GName, Lft, Share}
 use Rattle.walks.proofs.Walk.{ftrue, flft, fres, Memory, Routine, Heap, Calls, Loops, WpFn, Atoms, Fun, givenOf, Given, group, ‵, _⊛_, ⋆, _$_, _∵_, !, qed, by, move, keep}
-use Rattle.walks.proofs.Walk.{drop, split, fsplit, fsplit3, fjoin, suffices, frame, done, true-lit, false-lit, look, init, stop, hop, from, addr, of-opd, no-more, assigns, first, returns, returns-within, enter, alloc1, alloc0, params1, pass1, pass0, FmC, owns, Is, bool, bool-makes}
+use Rattle.walks.proofs.Walk.{drop, split, fsplit, fsplit3, fjoin, suffices, frame, done, look, init, stop, hop, from, addr, of-opd, no-more, assigns, first, returns, returns-within, enter, alloc1, alloc0, params1, pass1, pass0, FmC, owns, Is, bool, bool-makes}
 use Rattle.walks.proofs.Walk.{RefT, MutRef, ptr-vals, mut-tells, plain, owned, nothing, onEntry, gave-ref, goes-gave-ref, says, Stays, walkOf, AllGo, Walks, ends-at, walked, stay-none, goes-none, yes}
-use Rattle.walks.proofs.Call.{Callee, AllKnown, calls-out, calls-plain, local}
+use Rattle.walks.proofs.Call.{Callee, AllKnown, calls-out, calls-plain, local, flag}
 use Rattle.board.proofs.Callees.{applies, is-obeyed}
 use Rattle.board.proofs.Handed.{apply, to-apply, apply-asks, store, to-store, store-asks}
 use Rattle.walks.proofs.Branch.{branches-on, skips-to}
@@ -79,25 +79,25 @@ module _ {M : Type 1} (𝓤 : URA M) (H : Heap 𝓤) (A : Atoms 𝓤) (W : Given
         pass1 ! (init ! 14 refl (tt, tt)) $ pass1 ! (init ! 12 refl (EL.lawful R.the-type R′.the-laws 𝓤 H A W tt .typed a _ a-is .0)) $ pass0 ! $
         move ! (19 ∷ []) $ fsplit ! $ fsplit3 ! $ drop ! $ move ! (2 ∷ []) $ drop ! $ move ! (20 ∷ []) $ split ! $ move ! (2 ∷ 3 ∷ 0 ∷ []) $
         -- [obs; the borrow; its token; true; _8; …; _1; …; room for _0; …]
-        calls-plain ! fm applies (known-of .0) (tt, tt, tt, (a, tt), (va ∷ [], tt)) tt (id⊢ 𝓤 _) (a-is, tt) (id⊢ 𝓤 _) (λ c. c ≡ appliesBy a) (λ c e. id⊢ 𝓤 _) (local ! 17 refl (no-more !)) 14 refl refl (λ vc c asks c-is. first ! $ branches-on ! (look ! 14 refl) c-is asks
+        calls-plain ! fm applies (known-of .0) (tt, tt, tt, (a, tt), (va ∷ [], tt)) tt (id⊢ 𝓤 _) (a-is, tt) (id⊢ 𝓤 _) (λ c. c ≡ appliesBy a) (λ c e. id⊢ 𝓤 _) (local ! 21 refl (no-more !)) 14 refl refl (λ vc c asks c-is. first ! $ branches-on ! (look ! 14 refl) c-is asks
         (λ asks. assigns ! (addr ! (from ! (hop ! (look ! 18 refl) (stop !)))) (from ! (stop !)) (init ! 12 refl (tt, tt)) $ group ! 3 $
         -- [what `apply` asks; true; _8; …]
         calls-out ! fm apply (known-of .1 .0) (to-apply 𝓤 H A κ q b o γ h) tt (apply-asks 𝓤 H A W at-mem run κ q b o γ h) (λ r ds. (r ≡ copyFits (h .setup)) × (ds .0 ≡ record { setup = applied (h .setup); state = h .state })) (λ r ds. id⊢ 𝓤 _)
-        (local ! 10 refl (no-more !)) 17 refl refl (λ vr r ds told r-is. fsplit ! $ move ! (1 ∷ []) $ drop ! $
+        (local ! 18 refl (no-more !)) 17 refl refl (λ vr r ds told r-is. fsplit ! $ move ! (1 ∷ []) $ drop ! $
         -- [the record's last value; its token; true; _8; …]
         returns-within ! Post refl (look ! 19 refl) $ frees-all ! 3 (some _ ∷ some _ ∷ some _ ∷ some _ ∷ some _ ∷ []) refl $ keep ! (0 ∷ 1 ∷ []) $ by ! (exits r vr (ds .0) r-is (puts asks told))))
         (λ free. skips-to ! t-3 Post $ opens-record device ! tt h (λ was.
         -- [the record's cell; the open borrow; obs; auth; true; _8; …]
         copies ! 0 refl (readings-in h ! was) (look ! 19 refl) (init ! 9 refl) $
         calls-plain ! fm is-obeyed (known-of .1 .1 .0) (tt, tt, tt, (h .state .readings, (a, tt)), (mach-readings (h .state .readings) ∷ [], (va ∷ [], tt))) tt (id⊢ 𝓤 _) (readings-is h was, (a-is, tt)) (id⊢ 𝓤 _) (λ d. d ≡ isObeyed (h .state .readings) a) (λ d e. id⊢ 𝓤 _)
-        (local ! 10 refl (local ! 18 refl (no-more !))) 11 refl refl (λ vd d does d-is. first ! $ branches-on ! (look ! 11 refl) d-is does
+        (local ! 22 refl (local ! 22 refl (no-more !))) 11 refl refl (λ vd d does d-is. first ! $ branches-on ! (look ! 11 refl) d-is does
         (λ does. assigns ! (addr ! (from ! (hop ! (look ! 19 refl) (stop !)))) (from ! (stop !)) (init ! 5 refl (tt, tt)) $ closes-record device ! tt h was $ group ! 3 $
         -- [what `store` asks; true; _8; …]
         calls-out ! fm store (known-of .1 .1 .1 .0) (to-store 𝓤 H A κ q b o γ h a va) tt (store-asks 𝓤 H A W at-mem run κ q b o γ h a va a-is free) (λ u ds. ds .0 ≡ obeyed h a) (λ u ds. id⊢ 𝓤 _)
-        (local ! 2 refl (local ! 14 refl (no-more !))) 3 refl refl (λ vu u ds stored u-is. fsplit ! $ move ! (1 ∷ []) $ drop ! $
-        assigns ! (of-opd ! (true-lit !)) (from ! (stop !)) (init ! 19 refl (tt, tt)) $
+        (local ! 18 refl (local ! 18 refl (no-more !))) 3 refl refl (λ vu u ds stored u-is. fsplit ! $ move ! (1 ∷ []) $ drop ! $
+        assigns ! (of-opd ! (flag ! true tt)) (from ! (stop !)) (init ! 19 refl (tt, tt)) $
         returns-within ! Post refl (look ! 19 refl) $ frees-all ! 3 (some _ ∷ some _ ∷ some _ ∷ some _ ∷ none ∷ some _ ∷ some _ ∷ some _ ∷ some _ ∷ []) refl $ keep ! (0 ∷ 1 ∷ []) $ by ! (exits true (vbool true) (ds .0) refl (stores free does stored))))
-        (λ not-so. skips-to ! t-6 Post $ assigns ! (of-opd ! (false-lit !)) (from ! (stop !)) (init ! 21 refl (tt, tt)) $ gives-record device ! tt h was $
+        (λ not-so. skips-to ! t-6 Post $ assigns ! (of-opd ! (flag ! false tt)) (from ! (stop !)) (init ! 21 refl (tt, tt)) $ gives-record device ! tt h was $
         returns ! (look ! 19 refl) $ frees-all ! 3 (some _ ∷ some _ ∷ some _ ∷ some _ ∷ none ∷ some _ ∷ some _ ∷ []) refl $ keep ! (0 ∷ 1 ∷ []) $ by ! (exits false (vbool false) h refl (leaves free not-so))))))))))))))))
 
 module _ {M : Type 1} (𝓤 : URA M) (H : Heap 𝓤) (A : Atoms 𝓤) (W : Given 𝓤 H A) (mem : Memory → SProp 𝓤) (run : Routine → Fun 𝓤) where

@@ -85,34 +85,34 @@ module _ {M : Type 1} (𝓤 : URA M) (H : Heap 𝓤) (A : Atoms 𝓤) (W : Given
         move ! (31 ∷ []) $ fsplit ! $ fsplit3 ! $ drop ! $ move ! (2 ∷ []) $ drop ! $ move ! (32 ∷ []) $ split ! $ move ! (2 ∷ 3 ∷ 0 ∷ []) $
         opens-record device ! tt h (λ was.
         -- [the record's cell; the open borrow; obs; auth; true; _14; …; _1; …; room for _0; …]
-        calls-plain ! fm changes-zero (known-of .0) (tt, tt, tt, (a, tt), (va ∷ [], tt)) tt (id⊢ 𝓤 _) (a-is, tt) (id⊢ 𝓤 _) (λ c. c ≡ changesZero a) (λ c e. id⊢ 𝓤 _) (local ! 30 refl (no-more !)) 27 refl refl (λ vc c zero c-is. first ! $ branches-on ! (look ! 27 refl) c-is zero
+        calls-plain ! fm changes-zero (known-of .0) (tt, tt, tt, (a, tt), (va ∷ [], tt)) tt (id⊢ 𝓤 _) (a-is, tt) (id⊢ 𝓤 _) (λ c. c ≡ changesZero a) (λ c e. id⊢ 𝓤 _) (local ! 34 refl (no-more !)) 27 refl refl (λ vc c zero c-is. first ! $ branches-on ! (look ! 27 refl) c-is zero
         (λ zero. copies ! 0 refl (sz-in h ! was) (look ! 31 refl) (init ! 23 refl) $
-        calls-plain ! fm zero-by (known-of .1 .0) (tt, tt, tt, (sz, (a, tt)), (number sz ∷ [], (va ∷ [], tt))) tt (id⊢ 𝓤 _) (sz-is h was, (a-is, tt)) (id⊢ 𝓤 _) (λ z. z ≡ zeroBy sz a) (λ z e. id⊢ 𝓤 _) (local ! 24 refl (local ! 30 refl (no-more !))) 25 refl refl (λ vz z is z-is.
+        calls-plain ! fm zero-by (known-of .1 .0) (tt, tt, tt, (sz, (a, tt)), (number sz ∷ [], (va ∷ [], tt))) tt (id⊢ 𝓤 _) (sz-is h was, (a-is, tt)) (id⊢ 𝓤 _) (λ z. z ≡ zeroBy sz a) (λ z e. id⊢ 𝓤 _) (local ! 34 refl (local ! 34 refl (no-more !))) 25 refl refl (λ vz z is z-is.
         assigns-to ! t-3 Post (of-opd ! (load ! (from ! (stop !)) (look ! 25 refl))) (from ! (hop ! (look ! 31 refl) (fld ! setup-at (fld ! figures-at (fld ! system-at (fld ! sz-at (stop !))))))) (stores-sz ! 0 h refl was z z-is) $
         assigns ! (of-opd ! (unit-lit !)) (from ! (stop !)) (init ! 33 refl (tt, tt)) $ closes-record device ! tt (rezero h z) (rezeroed h was z z-is) $
         returns ! (look ! 32 refl) $ frees-all ! 4 (some _ ∷ some _ ∷ some _ ∷ some _ ∷ some _ ∷ some _ ∷ []) refl $
         keep ! (0 ∷ 1 ∷ 2 ∷ []) $ by ! (exits (rezero h z) (zeroes zero is))))
-        (λ no-zero. calls-plain ! fm restarts (known-of .1 .1 .0) (tt, tt, tt, (a, tt), (va ∷ [], tt)) tt (id⊢ 𝓤 _) (a-is, tt) (id⊢ 𝓤 _) (λ d. d ≡ restartsBy a) (λ d e. id⊢ 𝓤 _) (local ! 30 refl (no-more !)) 21 refl refl (λ vd d rst d-is. branches-on ! (look ! 21 refl) d-is rst
+        (λ no-zero. calls-plain ! fm restarts (known-of .1 .1 .0) (tt, tt, tt, (a, tt), (va ∷ [], tt)) tt (id⊢ 𝓤 _) (a-is, tt) (id⊢ 𝓤 _) (λ d. d ≡ restartsBy a) (λ d e. id⊢ 𝓤 _) (local ! 34 refl (no-more !)) 21 refl refl (λ vd d rst d-is. branches-on ! (look ! 21 refl) d-is rst
         (λ rst. copies ! 0 refl (figures-in h ! was) (look ! 31 refl) (init ! 17 refl) $
         calls-plain ! fm unused-zero (known-of .1 .1 .1 .0) (tt, tt, tt, (h .setup .figures, tt), (mach-figures (h .setup .figures) ∷ [], tt)) tt (id⊢ 𝓤 _) (figures-is h was, tt) (id⊢ 𝓤 _) (λ c. c ≡ unusedZero (h .setup .figures)) (λ c e. id⊢ 𝓤 _)
-        (local ! 18 refl (no-more !)) 19 refl refl (λ vu u unused u-is.
+        (local ! 34 refl (no-more !)) 19 refl refl (λ vu u unused u-is.
         assigns ! (of-opd ! (load ! (from ! (stop !)) (look ! 19 refl))) (from ! (hop ! (look ! 31 refl) (fld ! setup-at (fld ! copy-at (stop !))))) (stores-copy ! 0 h refl was u u-is) $
         calls-plain ! fm fresh (known-of .1 .1 .1 .1 .0) (tt, tt, tt, tt, tt) tt (id⊢ 𝓤 _) tt (id⊢ 𝓤 _) (λ s. s ≡ started) (λ s e. id⊢ 𝓤 _) (no-more !) 15 refl refl (λ vs s begun s-is.
         assigns-to ! t-3 Post (of-opd ! (load ! (from ! (stop !)) (look ! 15 refl))) (from ! (hop ! (look ! 31 refl) (fld ! state-at (stop !)))) (stores-state ! 0 (recopy h u) refl (recopied h was u u-is) s s-is) $
         assigns ! (of-opd ! (unit-lit !)) (from ! (stop !)) (init ! 33 refl (tt, tt)) $ closes-record device ! tt (restate (recopy h u) s) (restated (recopy h u) (recopied h was u u-is) s s-is) $
         returns ! (look ! 32 refl) $ frees-all ! 4 (some _ ∷ some _ ∷ some _ ∷ some _ ∷ none ∷ none ∷ some _ ∷ some _ ∷ some _ ∷ some _ ∷ []) refl $
         keep ! (0 ∷ 1 ∷ 2 ∷ []) $ by ! (exits (restate (recopy h u) s) (begins rst unused begun)))))
-        (λ no-rst. calls-plain ! fm changes-state (known-of .1 .1 .1 .1 .1 .0) (tt, tt, tt, (a, tt), (va ∷ [], tt)) tt (id⊢ 𝓤 _) (a-is, tt) (id⊢ 𝓤 _) (λ e. e ≡ changesState a) (λ e g. id⊢ 𝓤 _) (local ! 30 refl (no-more !)) 13 refl refl (λ ve e turn e-is. branches-on ! (look ! 13 refl) e-is turn
+        (λ no-rst. calls-plain ! fm changes-state (known-of .1 .1 .1 .1 .1 .0) (tt, tt, tt, (a, tt), (va ∷ [], tt)) tt (id⊢ 𝓤 _) (a-is, tt) (id⊢ 𝓤 _) (λ e. e ≡ changesState a) (λ e g. id⊢ 𝓤 _) (local ! 34 refl (no-more !)) 13 refl refl (λ ve e turn e-is. branches-on ! (look ! 13 refl) e-is turn
         (λ turn. copies ! 0 refl (state-in h ! was) (look ! 31 refl) (init ! 9 refl) $
         calls-plain ! fm state-by (known-of .1 .1 .1 .1 .1 .1 .0) (tt, tt, tt, (h .state, (a, tt)), (mach-state (h .state) ∷ [], (va ∷ [], tt))) tt (id⊢ 𝓤 _) (state-is h was, (a-is, tt)) (id⊢ 𝓤 _) (λ s. s ≡ stateBy (h .state) a) (λ s e. id⊢ 𝓤 _)
-        (local ! 10 refl (local ! 30 refl (no-more !))) 11 refl refl (λ vs s turned s-is.
+        (local ! 34 refl (local ! 34 refl (no-more !))) 11 refl refl (λ vs s turned s-is.
         assigns-to ! t-3 Post (of-opd ! (load ! (from ! (stop !)) (look ! 11 refl))) (from ! (hop ! (look ! 31 refl) (fld ! state-at (stop !)))) (stores-state ! 0 h refl was s s-is) $
         assigns ! (of-opd ! (unit-lit !)) (from ! (stop !)) (init ! 33 refl (tt, tt)) $ closes-record device ! tt (restate h s) (restated h was s s-is) $
         returns ! (look ! 32 refl) $ frees-all ! 4 (some _ ∷ some _ ∷ some _ ∷ some _ ∷ none ∷ none ∷ some _ ∷ none ∷ none ∷ none ∷ some _ ∷ some _ ∷ some _ ∷ []) refl $
         keep ! (0 ∷ 1 ∷ 2 ∷ []) $ by ! (exits (restate h s) (turns no-rst turn turned))))
         (λ no-turn. copies ! 0 refl (copy-in h ! was) (look ! 31 refl) (init ! 5 refl) $
         calls-plain ! fm copy-by (known-of .1 .1 .1 .1 .1 .1 .1 .0) (tt, tt, tt, (h .setup .copy, (a, tt)), (mach-figures (h .setup .copy) ∷ [], (va ∷ [], tt))) tt (id⊢ 𝓤 _) (copy-is h was, (a-is, tt)) (id⊢ 𝓤 _) (λ c. c ≡ copyBy (h .setup .copy) a) (λ c e. id⊢ 𝓤 _)
-        (local ! 6 refl (local ! 30 refl (no-more !))) 7 refl refl (λ vn n next n-is.
+        (local ! 34 refl (local ! 34 refl (no-more !))) 7 refl refl (λ vn n next n-is.
         assigns-to ! t-3 Post (of-opd ! (load ! (from ! (stop !)) (look ! 7 refl))) (from ! (hop ! (look ! 31 refl) (fld ! setup-at (fld ! copy-at (stop !))))) (stores-copy ! 0 h refl was n n-is) $
         assigns ! (of-opd ! (unit-lit !)) (from ! (stop !)) (init ! 33 refl (tt, tt)) $ closes-record device ! tt (recopy h n) (recopied h was n n-is) $
         returns ! (look ! 32 refl) $ frees-all ! 4 (some _ ∷ some _ ∷ some _ ∷ some _ ∷ none ∷ none ∷ some _ ∷ none ∷ none ∷ none ∷ some _ ∷ none ∷ none ∷ some _ ∷ some _ ∷ []) refl $
