@@ -1,5 +1,5 @@
 -- A frame by tests, for a record that is kept in place: a read, one that is obeyed, or any other; and which part of the record it can
--- change. Only code needs these: `proofs/Answers.antt` and `proofs/Stored.antt` tell what they say of `answered`, `setupBy` and `stateBy`.
+-- change. Only code needs these: `proofs/Answers.antt` and `proofs/Stored.antt` tell what they say of `answerOf`, `setupBy` and `stateBy`.
 use mathlib.Core.Bool.{Bool, true, false, cond, not, _||_}
 use Prim.Native.Nat.{ℕ}
 use lib.Dec.{eqb}

@@ -1,5 +1,5 @@
--- Nothing here is vacuous: the default sheet makes a device, and a history of three calls reaches one with a reading, a latched
--- overload, a snapshot and a changed SZ. By computation. Assumes nothing.
+-- Nothing here is vacuous: the default sheet makes a device, and a history of five calls reaches one with a reading, a latched
+-- overload, a snapshot, a changed SZ and a gain put in force. By computation. Assumes nothing.
 use mathlib.Core.Path.{_≡_, refl, sym, ap}
 use mathlib.Core.Bool.{true}
 use mathlib.Core.List.{List, [], _∷_}

@@ -111,5 +111,5 @@ pub record Waiting : Type 0 where
   pub read : (s : Setup) (n : ℕ) → setupBy s (Read n) ≡ s
   pub refused : (s : Setup) (n : ℕ) → setupBy s (Refused n) ≡ s
   pub station : (s : Setup) (f : Frame) → setupBy s f .station ≡ s .station
-  -- "Reads show that copy at all times" (`panelAt` of `Register.antt`)
+  -- "Reads show that copy at all times" (`panelAt` of `answers/specs/Register.antt`)
   pub scaled : (s : Setup) → Scaled (s .copy)
