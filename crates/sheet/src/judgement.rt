@@ -5,7 +5,6 @@ ghost use Prim.Native.Nat.{_+_, _*_, _≤_, _<_, _^_};
 ghost use lib.IntN.{natAbs, negℤ, _-ℤ_};
 ghost use Rattle.figures.specs.Default.{noTemperature, noLinearity};
 ghost use Rattle.sheet.specs.Judge.{_then_, shortOf, notBelow, tooSteep, pointsNumber, against, countNumber, rangeNumber, cellNumber, temperaturePointNumber, temperatureNumber, linearityPointNumber, linearityNumber, systemNumber, filterNumber, sectionsNumber, sheetLength, figuresNumber};
-use crate::bytes::unsigned;
 use figures::Calibration;
 use figures::Cell;
 use figures::Filter;
@@ -14,6 +13,7 @@ use figures::LinearityPoint;
 use figures::System;
 use figures::Temperature;
 use figures::TemperaturePoint;
+use integers::bytes::unsigned;
 
 // The first fault counts.
 pub fn first(a: u8, b: u8) -> u8

@@ -8,7 +8,6 @@ mod reading;
 
 use bytes::next_count;
 use bytes::next_figure;
-pub use bytes::unsigned;
 use figures::Calibration;
 pub use judgement::judge;
 pub use judgement::sheet_length;

@@ -18,9 +18,10 @@ use figures::LinearityPoint;
 use figures::System;
 use figures::Temperature;
 use figures::TemperaturePoint;
+use integers::bytes::put_word;
+use integers::bytes::unsigned;
 use sheet::judge;
 use sheet::sheet_length;
-use sheet::unsigned;
 
 // 0 and the bytes written; or the number of the refusal, and 0.
 #[repr(C)]
@@ -33,13 +34,8 @@ fn put_figure(out: &mut [u8], at: usize, v: i64)
     requires { ⌜ at + 8 ≤ length (now out) ⌝ }
     ensures { λ _. ⌜ Put (figureBytes v) (now (out .entry)) at (now (out .exit)) (at + 8) ⌝ }
 {
-    let mut word = unsigned(v);
-    let mut i: usize = 0;
-    while i < 8 {
-        out[at + i] = (word % 256) as u8;
-        word = word / 256;
-        i += 1;
-    }
+    let word = unsigned(v);
+    put_word(out, at, word, 8);
 }
 
 fn put_four(out: &mut [u8], at: usize, a: i64, b: i64, c: i64, d: i64)
