@@ -4,6 +4,7 @@ ghost use Rattle.sheet.specs.Step.{started, countStep, figureStep};
 
 mod bytes;
 mod judgement;
+pub mod places;
 mod reading;
 
 use bytes::next_count;
