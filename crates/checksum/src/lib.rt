@@ -4,6 +4,7 @@ ghost use Prim.Native.Nat.{_+_, _≤_, _<_};
 ghost use lib.ListN.{length, take, drop};
 ghost use Rattle.integers.specs.Bytes.{wordBytes};
 ghost use Rattle.checksum.specs.Checksum.{shifts, checksumFrom, checksumOf};
+use integers::bytes::eight_at;
 use integers::bytes::four_at;
 
 // Sixty-four shifts at once, with no table: modulo X^15 + X + 1, X^30 is X^2 + 1 and X^15 is X + 1, so
@@ -62,9 +63,7 @@ fn take_eight(sum: u16, bytes: &[u8], i: usize) -> u16
     requires { ⌜ i + 8 ≤ length (now bytes) ⌝ }
     ensures { λ r. ⌜ r ≡ checksumFrom sum (take 8 (drop i (now (bytes .entry)))) ⌝ }
 {
-    let low = four_at(bytes, i) as u64;
-    let high = four_at(bytes, i + 4) as u64;
-    sixty_four_shifts((sum as u64) ^ (low + high * 0x1_0000_0000))
+    sixty_four_shifts((sum as u64) ^ eight_at(bytes, i))
 }
 
 // The checksum of the first `count` bytes, or of all that there are.

@@ -24,8 +24,8 @@
 --    (depth: two for each nested operation, and two more). Where the bounds are no numerals, `simp (toZ-ofZ, f, g)` strips the
 --    bits by proofs f, g that the plain values fit, and `fits!` makes those: arithmetic's `round_div` goes that way.
 --
--- Beside these, Bits: or and exclusive or are associative; Words: bytes and the number that they
--- write; and Puts: texts that are put into a buffer.
+-- Beside these, Bits: or and exclusive or are associative; Words: bytes and the number that they write; TwosComplement: a
+-- number of 64 bits, its word and its eight bytes; and Puts: texts that are put into a buffer.
 --
 -- `≤ℤ`, `<ℤ` and `within` bind tighter than + and ·: write (a +ℤ b) ≤ℤ c.
 pub mod Parts
@@ -37,5 +37,6 @@ pub mod Machine
 pub mod Division
 pub mod Bits
 pub mod Words
+pub mod TwosComplement
 pub mod Puts
 mod Examples

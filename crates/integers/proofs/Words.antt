@@ -27,7 +27,17 @@ bytes-word (b ∷ l) h =
     let d : (b + wordOf l * 256) / 256 ≡ wordOf l = omega arith in
     rw (e, d) (ap (λ (t : List ℕ). b ∷ t) (bytes-word l (λ i. h (suc i))))
 
+pub word-lt : (l : List ℕ) → ((i : ℕ) → getD l i 0 < 256) → wordOf l < 256 ^ length l
+word-lt [] h = omega arith
+word-lt (b ∷ l) h = omega (arith, h 0, word-lt l (λ i. h (suc i)), pow-suc 256 (length l))
+
 -- ---- of a slice
+
+pub front-bytes : (n : ℕ) (l : List ℕ) → ((i : ℕ) → getD l i 0 < 256) → (i : ℕ) → getD (take n l) i 0 < 256
+front-bytes zero l h i = omega arith
+front-bytes (suc n) [] h i = h i
+front-bytes (suc n) (b ∷ l) h zero = h 0
+front-bytes (suc n) (b ∷ l) h (suc i) = front-bytes n l (λ j. h (suc j)) i
 
 number-more : (k : ℕ) (l : List ℕ) → wordOf (take (suc k) l) ≡ wordOf (take k l) + getD l k 0 * 256 ^ k
 number-more zero [] = refl

@@ -1,8 +1,8 @@
-// Bytes and the number that they write.
+// Bytes and the number that they write; and the words of a number in two's complement.
 ghost use mathlib.Core.Path.{_≡_};
-ghost use Prim.Native.Nat.{_+_, _≤_};
+ghost use Prim.Native.Nat.{_+_, _≤_, _<_, _^_};
 ghost use lib.ListN.{length, take, drop};
-ghost use Rattle.integers.specs.Bytes.{wordOf};
+ghost use Rattle.integers.specs.Bytes.{wordOf, wordBytes, signedOf, unsignedOf, Put};
 
 // The four bytes from a place on as one number, low byte first.
 pub fn four_at(bytes: &[u8], at: usize) -> u32
@@ -11,4 +11,50 @@ pub fn four_at(bytes: &[u8], at: usize) -> u32
 {
     let low = (bytes[at] as u32) + (bytes[at + 1] as u32) * 0x100;
     low + (bytes[at + 2] as u32) * 0x1_0000 + (bytes[at + 3] as u32) * 0x100_0000
+}
+
+// The eight bytes from a place on, likewise.
+pub fn eight_at(bytes: &[u8], at: usize) -> u64
+    requires { ⌜ at + 8 ≤ length (now bytes) ⌝ }
+    ensures { λ r. ⌜ r ≡ wordOf (take 8 (drop at (now (bytes .entry)))) ⌝ }
+{
+    let low = four_at(bytes, at) as u64;
+    let high = four_at(bytes, at + 4) as u64;
+    low + high * 0x1_0000_0000
+}
+
+// Puts the `count` lowest bytes of a word into a buffer from a place on, low byte first.
+pub fn put_word(out: &mut [u8], at: usize, word: u64, count: usize)
+    requires { ⌜ at + count ≤ length (now out) ⌝ }
+    ensures { λ _. ⌜ Put (wordBytes count word) (now (out .entry)) at (now (out .exit)) (at + count) ⌝ }
+{
+    let mut rest = word;
+    let mut i: usize = 0;
+    while i < count {
+        out[at + i] = (rest % 256) as u8;
+        rest = rest / 256;
+        i += 1;
+    }
+}
+
+// The number whose two's complement in so many bits the word is.
+pub fn signed(word: u64, bits: u64) -> i64
+    requires { ⌜ (1 ≤ bits) × (bits ≤ 64) × (word < 2 ^ bits) ⌝ }
+    ensures { λ r. ⌜ r ≡ signedOf bits word ⌝ }
+{
+    let half: u64 = 1 << (bits - 1);
+    if word < half {
+        return word as i64;
+    }
+    -1 - ((half - 1 - (word - half)) as i64)
+}
+
+// The word of 64 bits whose two's complement the number is.
+pub fn unsigned(v: i64) -> u64
+    ensures { λ r. ⌜ r ≡ unsignedOf v ⌝ }
+{
+    if v < 0 {
+        return 0xffff_ffff_ffff_ffff - ((-1 - v) as u64);
+    }
+    v as u64
 }

@@ -17,7 +17,8 @@ use Rattle.figures.specs.Acceptable.{Acceptable, temperatureRow, linearityRow, 
 use Rattle.figures.specs.Unused.{noLinearity, noTemperature}
 use Rattle.figures.specs.Representable.{Representable, Fitting}
 use Rattle.figures.specs.declared.Calibration.{Calibration}
-use Rattle.sheet.specs.Judge.{never, linearityStart, systemStart, filterStart, figuresNumber}
+use Rattle.sheet.specs.Places.{temperatureStart, linearityStart, systemStart, filterStart}
+use Rattle.sheet.specs.Judge.{never, figuresNumber}
 use Rattle.sheet.proofs.Sections.{no-fault, fault-none}
 use Rattle.sheet.proofs.Rows.{row-each}
 use Rattle.sheet.proofs.AcceptableSections.{cell-in, in-cell, system-in, in-system, filter-in, in-filter}
@@ -31,10 +32,10 @@ figures-acceptable c r h =
     let n = no-fault never 4 5 2 c h in
     record {
       cell-ok = cell-in 0 (c .cell) (n .cell-none);
-      temperature-ok = temperature-in 33 (c .temperature) (r .five) (n .temperature-none);
-      linearity-ok = linearity-in (linearityStart c) (c .linearity) (r .seven) (n .linearity-none);
-      system-ok = system-in (systemStart c) (c .system) (n .system-none);
-      filter-ok = filter-in (filterStart c) (c .filter) (n .filter-none);
+      temperature-ok = temperature-in temperatureStart (c .temperature) (r .five) (n .temperature-none);
+      linearity-ok = linearity-in (linearityStart (c .temperature .ctn)) (c .linearity) (r .seven) (n .linearity-none);
+      system-ok = system-in (systemStart (c .temperature .ctn) (c .linearity .cln)) (c .system) (n .system-none);
+      filter-ok = filter-in (filterStart (c .temperature .ctn) (c .linearity .cln)) (c .filter) (n .filter-none);
     }
 
 pub acceptable-figures : (c : Calibration) → Representable c → Acceptable c → figuresNumber c ≡ 0
@@ -43,10 +44,10 @@ acceptable-figures c r h =
     fault-none never 4 5 2 c
     (record {
       cell-none = in-cell 0 (c .cell) (h .cell-ok);
-      temperature-none = in-temperature 33 (c .temperature) (r .five) (h .temperature-ok);
-      linearity-none = in-linearity (linearityStart c) (c .linearity) (r .seven) (h .linearity-ok);
-      system-none = in-system (systemStart c) (c .system) (h .system-ok);
-      filter-none = in-filter (filterStart c) (c .filter) (h .filter-ok);
+      temperature-none = in-temperature temperatureStart (c .temperature) (r .five) (h .temperature-ok);
+      linearity-none = in-linearity (linearityStart (c .temperature .ctn)) (c .linearity) (r .seven) (h .linearity-ok);
+      system-none = in-system (systemStart (c .temperature .ctn) (c .linearity .cln)) (c .system) (h .system-ok);
+      filter-none = in-filter (filterStart (c .temperature .ctn) (c .linearity .cln)) (c .filter) (h .filter-ok);
     })
 
 -- ---- acceptable figures have 64 bits and fewer

@@ -15,8 +15,8 @@ use Rattle.figures.specs.declared.System.{System}
 use Rattle.figures.specs.declared.Filter.{Filter}
 use Rattle.figures.specs.declared.Calibration.{Calibration}
 use Rattle.sheet.specs.Bytes.{countAt}
-use Rattle.sheet.specs.Judge.{sheetLength}
-use Rattle.sheet.specs.Read.{cellAt, temperaturePointAt, linearityPointAt, temperatureAt, linearityAt, systemAt, filterAt, linearityPlace, systemPlace, figuresOf}
+use Rattle.sheet.specs.Places.{temperatureStart, linearityStart, systemStart, filterStart, sheetEnd, sheetLength}
+use Rattle.sheet.specs.Read.{cellAt, temperaturePointAt, linearityPointAt, temperatureAt, linearityAt, systemAt, filterAt, figuresOf, ctnOf, clnOf}
 use Rattle.sheet.specs.Write.{cellBytes, temperaturePointBytes, linearityPointBytes, temperatureBytes, linearityBytes, systemBytes, filterBytes, sheetBytes}
 use Rattle.sheet.proofs.EightBytes.{cut, cut-count}
 use Rattle.sheet.proofs.Points.{points-are, points-cut}
@@ -95,23 +95,23 @@ module _ (s : List ℕ) where
 
   pub record SheetCut (c : Calibration) : Type 0 where
     pub cell-count : countAt s 0 ≡ 4
-    pub system-count : countAt s (systemPlace s) ≡ 5
-    pub filter-count : countAt s (systemPlace s + 41) ≡ 2
+    pub system-count : countAt s (systemStart (ctnOf s) (clnOf s)) ≡ 5
+    pub filter-count : countAt s (filterStart (ctnOf s) (clnOf s)) ≡ 2
     pub says : figuresOf s ≡ unusedZero c
-    pub ends : systemPlace s + 58 ≡ sheetLength c
+    pub ends : sheetEnd (ctnOf s) (clnOf s) ≡ sheetLength c
     pub long : length s ≡ sheetLength c
 
   pub sheet-cut : (c : Calibration) → Representable c → Fitting c → s ≡ sheetBytes c → SheetCut c
   unfolding sheetBytes figuresOf unusedZero
   sheet-cut c rep g e =
       let a = cell-cut 0 (c .cell) _ (g .cell-fits) (simp append-assoc at e) in
-      let t = temperature-cut 33 (c .temperature) _ (rep .five) (g .temperature-fits) (a .next) in
-      let p : linearityPlace s ≡ 34 + 24 * c .temperature .ctn = ap (λ (n : ℕ). 34 + 24 * n) (t .counted) in
-      let l = linearity-cut (34 + 24 * c .temperature .ctn) (c .linearity) _ (rep .seven) (g .linearity-fits) (t .next) in
-      let m : countAt s (linearityPlace s) ≡ c .linearity .cln = rw p (l .counted) in
-      let q : systemPlace s ≡ 34 + 24 * c .temperature .ctn + 1 + 16 * c .linearity .cln = rw (m, p) in
-      let y = system-cut (34 + 24 * c .temperature .ctn + 1 + 16 * c .linearity .cln) (c .system) _ (g .system-fits) (l .next) in
-      let f = filter-cut (34 + 24 * c .temperature .ctn + 1 + 16 * c .linearity .cln + 41) (c .filter) [] (g .filter-fits) (y .next ∙ sym (append-nil (filterBytes (c .filter)))) in
+      let t = temperature-cut temperatureStart (c .temperature) _ (rep .five) (g .temperature-fits) (a .next) in
+      let p : linearityStart (ctnOf s) ≡ linearityStart (c .temperature .ctn) = ap linearityStart (t .counted) in
+      let l = linearity-cut (linearityStart (c .temperature .ctn)) (c .linearity) _ (rep .seven) (g .linearity-fits) (t .next) in
+      let m : clnOf s ≡ c .linearity .cln = rw p (l .counted) in
+      let q : systemStart (ctnOf s) (clnOf s) ≡ systemStart (c .temperature .ctn) (c .linearity .cln) = rw (m, p) in
+      let y = system-cut (systemStart (c .temperature .ctn) (c .linearity .cln)) (c .system) _ (g .system-fits) (l .next) in
+      let f = filter-cut (filterStart (c .temperature .ctn) (c .linearity .cln)) (c .filter) [] (g .filter-fits) (y .next ∙ sym (append-nil (filterBytes (c .filter)))) in
       let z : length s - sheetLength c ≡ 0 = sym (length-drop (sheetLength c) s) ∙ ap length (f .next) in
       record {
         cell-count = a .counted;

@@ -8,7 +8,8 @@ use lib.ListN.{length, drop}
 use lib.Seq.{drop-length}
 use Rattle.figures.specs.Unused.{noLinearity, noTemperature}
 use Rattle.sheet.specs.Bytes.{countAt, Bytes}
-use Rattle.sheet.specs.Read.{cellAt, temperaturePointAt, linearityPointAt, pointsAt, temperatureAt, linearityAt, systemAt, filterAt, linearityPlace, systemPlace, figuresOf}
+use Rattle.sheet.specs.Places.{temperatureStart, linearityStart, systemStart, filterStart, sheetEnd}
+use Rattle.sheet.specs.Read.{cellAt, temperaturePointAt, linearityPointAt, pointsAt, temperatureAt, linearityAt, systemAt, filterAt, figuresOf, ctnOf, clnOf}
 use Rattle.sheet.specs.Write.{cellBytes, temperaturePointBytes, linearityPointBytes, temperatureBytes, linearityBytes, systemBytes, filterBytes, sheetBytes}
 use Rattle.sheet.proofs.EightBytes.{glue, glue-count}
 use Rattle.sheet.proofs.Points.{points-at, points-glue}
@@ -68,20 +69,20 @@ module _ (s : List ℕ) (b : Bytes s) where
   -- a sheet whose counts are right, and which ends where they say
   pub record Complete : Type 0 where
     pub cell-count : countAt s 0 ≡ 4
-    pub temperature-count : countAt s 33 ≤ 5
-    pub linearity-count : countAt s (linearityPlace s) ≤ 7
-    pub system-count : countAt s (systemPlace s) ≡ 5
-    pub filter-count : countAt s (systemPlace s + 41) ≡ 2
-    pub long : length s ≡ systemPlace s + 58
+    pub temperature-count : ctnOf s ≤ 5
+    pub linearity-count : clnOf s ≤ 7
+    pub system-count : countAt s (systemStart (ctnOf s) (clnOf s)) ≡ 5
+    pub filter-count : countAt s (filterStart (ctnOf s) (clnOf s)) ≡ 2
+    pub long : length s ≡ sheetEnd (ctnOf s) (clnOf s)
 
   pub sheet-glue : Complete → sheetBytes (figuresOf s) ≡ s
   unfolding figuresOf sheetBytes
   sheet-glue h =
-      let e : systemPlace s + 41 + 17 ≡ length s = omega (arith, h .long) in
-      let none : drop (systemPlace s + 41 + 17) s ≡ [] = rw e (drop-length s) in
-      let z = filter-glue (systemPlace s + 41) (h .filter-count) (omega (arith, h .long)) none in
-      let y = system-glue (systemPlace s) (h .system-count) (omega (arith, h .long)) z in
-      let l = linearity-glue (linearityPlace s) (h .linearity-count) (omega (arith, h .long)) y in
-      let t = temperature-glue 33 (h .temperature-count) (omega (arith, h .long)) l in
+      let e : sheetEnd (ctnOf s) (clnOf s) ≡ length s = sym (h .long) in
+      let none : drop (sheetEnd (ctnOf s) (clnOf s)) s ≡ [] = rw e (drop-length s) in
+      let z = filter-glue (filterStart (ctnOf s) (clnOf s)) (h .filter-count) (omega (arith, h .long)) none in
+      let y = system-glue (systemStart (ctnOf s) (clnOf s)) (h .system-count) (omega (arith, h .long)) z in
+      let l = linearity-glue (linearityStart (ctnOf s)) (h .linearity-count) (omega (arith, h .long)) y in
+      let t = temperature-glue temperatureStart (h .temperature-count) (omega (arith, h .long)) l in
       let c = cell-glue 0 (h .cell-count) (omega (arith, h .long)) t in
       sym (simp append-assoc (simp append-nil at c))

@@ -12,8 +12,9 @@ use Rattle.figures.specs.declared.System.{System}
 use Rattle.figures.specs.declared.Filter.{Filter}
 use Rattle.figures.specs.declared.Calibration.{Calibration}
 use Rattle.sheet.specs.Bytes.{countAt}
-use Rattle.sheet.specs.Judge.{_then_, never, shortOf, wrongCount, trailing, countNumber, rangeNumber, cellNumber, systemNumber, filterNumber, sectionsNumber, figuresNumber, systemStart, filterStart, sheetLength}
-use Rattle.sheet.specs.Read.{figuresOf, temperatureAt, linearityAt, sheetNumber, systemPlace}
+use Rattle.sheet.specs.Places.{systemStart, filterStart, sheetEnd, sheetLength}
+use Rattle.sheet.specs.Judge.{_then_, never, shortOf, wrongCount, trailing, countNumber, rangeNumber, cellNumber, systemNumber, filterNumber, sectionsNumber, figuresNumber}
+use Rattle.sheet.specs.Read.{figuresOf, temperatureAt, linearityAt, sheetNumber, ctnOf, clnOf}
 use Rattle.sheet.proofs.Chain.{then-none, then-zero}
 use Rattle.sheet.proofs.Numbers.{short-in, in-short, count-in, whole-in, in-whole}
 use Rattle.sheet.proofs.Whole.{sections-whole}
@@ -21,7 +22,7 @@ use Rattle.sheet.proofs.Sections.{no-fault}
 use Rattle.sheet.proofs.Cut.{SheetCut}
 use Rattle.sheet.proofs.Unused.{unused-judged}
 
-parts : (s : List ℕ) {a b d e : ℕ} {c : Calibration} → countAt s 0 ≡ a → countAt s (systemPlace s) ≡ b → countAt s (systemPlace s + 41) ≡ d → figuresOf s ≡ c → systemPlace s + 58 ≡ e
+parts : (s : List ℕ) {a b d e : ℕ} {c : Calibration} → countAt s 0 ≡ a → countAt s (systemStart (ctnOf s) (clnOf s)) ≡ b → countAt s (filterStart (ctnOf s) (clnOf s)) ≡ d → figuresOf s ≡ c → sheetEnd (ctnOf s) (clnOf s) ≡ e
     → sheetNumber s ≡ sectionsNumber (shortOf (length s)) a b d c then trailing (length s) e
 unfolding sheetNumber
 parts s x y z w v = cc
@@ -64,25 +65,25 @@ filter-end room at n f h =
 
 pub record Faultless (s : List ℕ) : Type 0 where
   pub cell-count : countAt s 0 ≡ 4
-  pub system-count : countAt s (systemPlace s) ≡ 5
-  pub filter-count : countAt s (systemPlace s + 41) ≡ 2
+  pub system-count : countAt s (systemStart (ctnOf s) (clnOf s)) ≡ 5
+  pub filter-count : countAt s (filterStart (ctnOf s) (clnOf s)) ≡ 2
   pub figures-none : figuresNumber (figuresOf s) ≡ 0
-  pub long : length s ≡ systemPlace s + 58
+  pub long : length s ≡ sheetEnd (ctnOf s) (clnOf s)
 
 pub faultless : (s : List ℕ) → sheetNumber s ≡ 0 → Faultless s
 unfolding figuresOf temperatureAt linearityAt figuresNumber
 faultless s z =
     let c = figuresOf s in
     let a = countAt s 0 in
-    let b = countAt s (systemPlace s) in
-    let d = countAt s (systemPlace s + 41) in
+    let b = countAt s (systemStart (ctnOf s) (clnOf s)) in
+    let d = countAt s (filterStart (ctnOf s) (clnOf s)) in
     let short = shortOf (length s) in
     let h = then-none {a = sectionsNumber short a b d c} (sym (parts s refl refl refl refl refl) ∙ z) in
-    let e : filterStart c + 17 ≤ length s = filter-end (length s) (filterStart c) d (c .filter) (no-fault short a b d c (h .0) .filter-none) in
-    let w = whole-in (length s) (systemPlace s + 58) (h .1) in
+    let e : sheetLength c ≤ length s = filter-end (length s) (filterStart (c .temperature .ctn) (c .linearity .cln)) d (c .filter) (no-fault short a b d c (h .0) .filter-none) in
+    let w = whole-in (length s) (sheetEnd (ctnOf s) (clnOf s)) (h .1) in
     let g : sectionsNumber never a b d c ≡ 0 = sym (sections-whole short a b d c (λ k l. in-short (omega arith))) ∙ h .0 in
     let n = no-fault never a b d c g in
     let x = cell-counted 0 a (c .cell) (n .cell-none) in
-    let y = system-counted (systemStart c) b (c .system) (n .system-none) in
-    let v = filter-counted (filterStart c) d (c .filter) (n .filter-none) in
+    let y = system-counted (systemStart (c .temperature .ctn) (c .linearity .cln)) b (c .system) (n .system-none) in
+    let v = filter-counted (filterStart (c .temperature .ctn) (c .linearity .cln)) d (c .filter) (n .filter-none) in
     record { cell-count = x; system-count = y; filter-count = v; figures-none = cc (g, x, y, v); long = omega arith }

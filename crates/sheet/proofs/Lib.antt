@@ -1,4 +1,3 @@
-pub mod TwosComplement
 pub mod Chain
 pub mod Numbers
 pub mod Whole

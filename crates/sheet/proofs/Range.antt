@@ -20,9 +20,10 @@ use Rattle.figures.specs.declared.Linearity.{Linearity}
 use Rattle.figures.specs.declared.System.{System}
 use Rattle.figures.specs.declared.Filter.{Filter}
 use Rattle.figures.specs.declared.Calibration.{Calibration}
+use Rattle.sheet.specs.Places.{temperatureStart, linearityStart, systemStart, filterStart, sheetEnd}
 use Rattle.sheet.specs.Judge.{_then_, shortOf, never, wrongCount, beyond, notBelow, tooSteep, trailing, pointsNumber, against}
-use Rattle.sheet.specs.Judge.{countNumber, rangeNumber, figureNumber, cellNumber, temperaturePointNumber, temperatureNumber, linearityPointNumber, linearityNumber, systemNumber, filterNumber, linearityStart, systemStart, filterStart, sectionsNumber, figuresNumber}
-use Rattle.sheet.specs.Read.{figuresOf, systemPlace, sheetNumber}
+use Rattle.sheet.specs.Judge.{countNumber, rangeNumber, figureNumber, cellNumber, temperaturePointNumber, temperatureNumber, linearityPointNumber, linearityNumber, systemNumber, filterNumber, sectionsNumber, figuresNumber}
+use Rattle.sheet.specs.Read.{figuresOf, sheetNumber, ctnOf, clnOf}
 use Rattle.sheet.specs.Bytes.{countAt}
 
 module _ (P : ℕ → Type 0) where
@@ -104,7 +105,7 @@ module _ (P : ℕ → Type 0) where
       sections-keep : (a b d : ℕ) (c : Calibration) → P (sectionsNumber short a b d c)
       unfolding sectionsNumber
       sections-keep a b d c =
-          keep (cell-keeps 0 a (c .cell)) (keep (temperature-keeps 33 (c .temperature)) (keep (linearity-keeps (linearityStart c) (c .linearity)) (keep (system-keeps (systemStart c) b (c .system)) (filter-keeps (filterStart c) d (c .filter)))))
+          keep (cell-keeps 0 a (c .cell)) (keep (temperature-keeps temperatureStart (c .temperature)) (keep (linearity-keeps (linearityStart (c .temperature .ctn)) (c .linearity)) (keep (system-keeps (systemStart (c .temperature .ctn) (c .linearity .cln)) b (c .system)) (filter-keeps (filterStart (c .temperature .ctn) (c .linearity .cln)) d (c .filter)))))
 
 -- a sheet gets 0 to 7
 pub sheet-numbers : (s : List ℕ) → sheetNumber s ≤ 7
@@ -112,8 +113,8 @@ unfolding sheetNumber shortOf trailing
 sheet-numbers s =
     keep (λ k. k ≤ 7)
     (sections-keep (λ k. k ≤ 7) (omega arith) (omega arith) (omega arith) (omega arith) (omega arith) (omega arith) (shortOf (length s)) (λ e. picked (λ k. k ≤ 7) {a = 1} {b = 0} (ltb (length s) e) (omega arith) (omega arith))
-    (countAt s 0) (countAt s (systemPlace s)) (countAt s (systemPlace s + 41)) (figuresOf s))
-    (picked (λ k. k ≤ 7) {a = 7} {b = 0} (ltb (systemPlace s + 58) (length s)) (omega arith) (omega arith))
+    (countAt s 0) (countAt s (systemStart (ctnOf s) (clnOf s))) (countAt s (filterStart (ctnOf s) (clnOf s))) (figuresOf s))
+    (picked (λ k. k ≤ 7) {a = 7} {b = 0} (ltb (sheetEnd (ctnOf s) (clnOf s)) (length s)) (omega arith) (omega arith))
 
 -- 2 to 6, or 0
 abbrev TwoToSix : ℕ → Type 0

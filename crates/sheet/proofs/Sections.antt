@@ -4,25 +4,26 @@ use Prim.Native.Nat.{ℕ, _+_, _*_, _≤_}
 use Rattle.figures.specs.declared.Temperature.{Temperature}
 use Rattle.figures.specs.declared.Linearity.{Linearity}
 use Rattle.figures.specs.declared.Calibration.{Calibration}
-use Rattle.sheet.specs.Judge.{_then_, never, countNumber, pointsNumber, cellNumber, temperaturePointNumber, temperatureNumber, linearityPointNumber, linearityNumber, systemNumber, filterNumber, linearityStart, systemStart, filterStart, sectionsNumber, figuresNumber}
+use Rattle.sheet.specs.Places.{temperatureStart, linearityStart, systemStart, filterStart}
+use Rattle.sheet.specs.Judge.{_then_, never, countNumber, pointsNumber, cellNumber, temperaturePointNumber, temperatureNumber, linearityPointNumber, linearityNumber, systemNumber, filterNumber, sectionsNumber, figuresNumber}
 use Rattle.sheet.proofs.Chain.{then-none, both}
 use Rattle.sheet.proofs.Numbers.{count-in}
 
 module _ (short : ℕ → ℕ) where
   pub record NoFault (a b d : ℕ) (c : Calibration) : Type 0 where
     pub cell-none : cellNumber short 0 a (c .cell) ≡ 0
-    pub temperature-none : temperatureNumber short 33 (c .temperature) ≡ 0
-    pub linearity-none : linearityNumber short (linearityStart c) (c .linearity) ≡ 0
-    pub system-none : systemNumber short (systemStart c) b (c .system) ≡ 0
-    pub filter-none : filterNumber short (filterStart c) d (c .filter) ≡ 0
+    pub temperature-none : temperatureNumber short temperatureStart (c .temperature) ≡ 0
+    pub linearity-none : linearityNumber short (linearityStart (c .temperature .ctn)) (c .linearity) ≡ 0
+    pub system-none : systemNumber short (systemStart (c .temperature .ctn) (c .linearity .cln)) b (c .system) ≡ 0
+    pub filter-none : filterNumber short (filterStart (c .temperature .ctn) (c .linearity .cln)) d (c .filter) ≡ 0
 
   pub no-fault : (a b d : ℕ) (c : Calibration) → sectionsNumber short a b d c ≡ 0 → NoFault a b d c
   unfolding sectionsNumber
   no-fault a b d c h =
       let u = then-none {a = cellNumber short 0 a (c .cell)} h in
-      let v = then-none {a = temperatureNumber short 33 (c .temperature)} (u .1) in
-      let w = then-none {a = linearityNumber short (linearityStart c) (c .linearity)} (v .1) in
-      let x = then-none {a = systemNumber short (systemStart c) b (c .system)} (w .1) in
+      let v = then-none {a = temperatureNumber short temperatureStart (c .temperature)} (u .1) in
+      let w = then-none {a = linearityNumber short (linearityStart (c .temperature .ctn)) (c .linearity)} (v .1) in
+      let x = then-none {a = systemNumber short (systemStart (c .temperature .ctn) (c .linearity .cln)) b (c .system)} (w .1) in
       record { cell-none = u .0; temperature-none = v .0; linearity-none = w .0; system-none = x .0; filter-none = x .1 }
 
   pub fault-none : (a b d : ℕ) (c : Calibration) → NoFault a b d c → sectionsNumber short a b d c ≡ 0
@@ -56,4 +57,4 @@ pub counts-in : (c : Calibration) → figuresNumber c ≡ 0 → (c .temperature 
 unfolding figuresNumber
 counts-in c h =
     let n = no-fault never 4 5 2 c h in
-    (temperature-fault never 33 (c .temperature) (n .temperature-none) .few, linearity-fault never (linearityStart c) (c .linearity) (n .linearity-none) .few)
+    (temperature-fault never temperatureStart (c .temperature) (n .temperature-none) .few, linearity-fault never (linearityStart (c .temperature .ctn)) (c .linearity) (n .linearity-none) .few)

@@ -11,8 +11,9 @@ use Rattle.figures.specs.Representable.{Representable, Fitting}
 use Rattle.figures.specs.declared.Calibration.{Calibration}
 use Rattle.sheet.specs.declared.Sheet.{Sheet}
 use Rattle.sheet.specs.Bytes.{countAt, Bytes}
-use Rattle.sheet.specs.Judge.{figuresNumber, sheetLength}
-use Rattle.sheet.specs.Read.{figuresOf, temperaturePointAt, linearityPointAt, temperatureAt, linearityAt, sheetNumber, noFigures, readSheet, linearityPlace}
+use Rattle.sheet.specs.Places.{linearityStart, sheetLength}
+use Rattle.sheet.specs.Judge.{figuresNumber}
+use Rattle.sheet.specs.Read.{figuresOf, temperaturePointAt, linearityPointAt, temperatureAt, linearityAt, sheetNumber, noFigures, readSheet, ctnOf, clnOf}
 use Rattle.sheet.specs.Write.{sheetBytes}
 use Rattle.sheet.proofs.Sections.{counts-in}
 use Rattle.sheet.proofs.Accepted.{figures-acceptable, acceptable-figures, acceptable-fits}
@@ -49,11 +50,11 @@ written-length c r f = sheet-cut (sheetBytes c) c r f refl .long
 module _ (s : List ℕ) where
   read-representable : Representable (figuresOf s)
   unfolding figuresOf temperatureAt linearityAt
-  read-representable = record { five = points-length noTemperature temperaturePointAt 24 5 s 34 (min (countAt s 33) 5); seven = points-length noLinearity linearityPointAt 16 7 s (linearityPlace s + 1) (min (countAt s (linearityPlace s)) 7) }
+  read-representable = record { five = points-length noTemperature temperaturePointAt 24 5 s 34 (min (ctnOf s) 5); seven = points-length noLinearity linearityPointAt 16 7 s (linearityStart (ctnOf s) + 1) (min (clnOf s) 7) }
 
   read-unused : unusedZero (figuresOf s) ≡ figuresOf s
   unfolding figuresOf temperatureAt linearityAt unusedZero
-  read-unused = simp (points-used noTemperature temperaturePointAt 24 5 s 34 (countAt s 33), points-used noLinearity linearityPointAt 16 7 s (linearityPlace s + 1) (countAt s (linearityPlace s)))
+  read-unused = simp (points-used noTemperature temperaturePointAt 24 5 s 34 (ctnOf s), points-used noLinearity linearityPointAt 16 7 s (linearityStart (ctnOf s) + 1) (clnOf s))
 
   complete : (b : Bytes s) → Faultless s → Complete s b
   unfolding figuresOf temperatureAt linearityAt

@@ -9,7 +9,8 @@ use Rattle.figures.specs.declared.Temperature.{Temperature}
 use Rattle.figures.specs.declared.Linearity.{Linearity}
 use Rattle.figures.specs.declared.LinearityPoint.{LinearityPoint}
 use Rattle.figures.specs.declared.Calibration.{Calibration}
-use Rattle.sheet.specs.Judge.{_then_, never, wrongCount, notBelow, tooSteep, against, temperaturePointNumber, temperatureNumber, linearityPointNumber, linearityNumber, linearityStart, sectionsNumber, figuresNumber}
+use Rattle.sheet.specs.Places.{temperatureStart, linearityStart}
+use Rattle.sheet.specs.Judge.{_then_, never, wrongCount, notBelow, tooSteep, against, temperaturePointNumber, temperatureNumber, linearityPointNumber, linearityNumber, sectionsNumber, figuresNumber}
 use Rattle.sheet.specs.Write.{temperaturePointBytes, linearityPointBytes, pointsBytes, temperatureBytes, linearityBytes, sheetBytes}
 use Rattle.sheet.proofs.Whole.{points-cong}
 use Rattle.sheet.proofs.Points.{used-at}
@@ -39,7 +40,7 @@ linearity-table at l =
 
 pub unused-judged : (c : Calibration) → figuresNumber (unusedZero c) ≡ figuresNumber c
 unfolding figuresNumber sectionsNumber unusedZero
-unused-judged c = rw (temperature-table 33 (c .temperature), linearity-table (linearityStart c) (c .linearity))
+unused-judged c = rw (temperature-table temperatureStart (c .temperature), linearity-table (linearityStart (c .temperature .ctn)) (c .linearity))
 
 bytes-used : {A : Type 0} (none : A) (pointBytes : A → List ℕ) (n : ℕ) (ps : List A) (m : ℕ) → m ≤ n → pointsBytes none pointBytes (used none n ps) m ≡ pointsBytes none pointBytes ps m
 bytes-used none pointBytes n ps zero l = refl

@@ -11,7 +11,8 @@ use Rattle.figures.specs.declared.Linearity.{Linearity}
 use Rattle.figures.specs.declared.System.{System}
 use Rattle.figures.specs.declared.Filter.{Filter}
 use Rattle.figures.specs.declared.Calibration.{Calibration}
-use Rattle.sheet.specs.Judge.{_then_, never, wrongCount, pointsNumber, countNumber, cellNumber, temperaturePointNumber, temperatureNumber, linearityPointNumber, linearityNumber, systemNumber, filterNumber, linearityStart, systemStart, filterStart, sheetLength, sectionsNumber}
+use Rattle.sheet.specs.Places.{temperatureStart, linearityStart, systemStart, filterStart, sheetLength}
+use Rattle.sheet.specs.Judge.{_then_, never, wrongCount, pointsNumber, countNumber, cellNumber, temperaturePointNumber, temperatureNumber, linearityPointNumber, linearityNumber, systemNumber, filterNumber, sectionsNumber}
 use Rattle.sheet.proofs.Chain.{then-cong}
 
 pub points-cong : {f g : ℕ → ℕ} (n : ℕ) → ((i : ℕ) → i < n → f i ≡ g i) → pointsNumber f n ≡ pointsNumber g n
@@ -66,10 +67,10 @@ pub sections-alone : (short : ℕ → ℕ) (a b d : ℕ) (c : Calibration) → (
 unfolding sectionsNumber alone
 sections-alone short a b d c h =
     then-cong (cell-whole short 0 a (c .cell) (λ e l. h e (omega arith)))
-    (λ _. then-cong (temperature-whole short 33 (c .temperature) (λ e l. h e (omega arith)))
-    (λ _. then-cong (linearity-whole short (linearityStart c) (c .linearity) (λ e l. h e (omega arith)))
-    (λ _. then-cong (system-whole short (systemStart c) b (c .system) (λ e l. h e (omega arith)))
-    (λ _. filter-whole short (filterStart c) d (c .filter) (λ e l. h e l)))))
+    (λ _. then-cong (temperature-whole short temperatureStart (c .temperature) (λ e l. h e (omega arith)))
+    (λ _. then-cong (linearity-whole short (linearityStart (c .temperature .ctn)) (c .linearity) (λ e l. h e (omega arith)))
+    (λ _. then-cong (system-whole short (systemStart (c .temperature .ctn) (c .linearity .cln)) b (c .system) (λ e l. h e (omega arith)))
+    (λ _. filter-whole short (filterStart (c .temperature .ctn) (c .linearity .cln)) d (c .filter) (λ e l. h e l)))))
 
 pub sections-whole : (short : ℕ → ℕ) (a b d : ℕ) (c : Calibration) → ((e : ℕ) → e ≤ sheetLength c → short e ≡ 0) → sectionsNumber short a b d c ≡ sectionsNumber never a b d c
 sections-whole short a b d c h = sections-alone short a b d c h ∙ sym (sections-alone never a b d c (λ e l. refl))

@@ -1,12 +1,12 @@
 -- Counts and figures as bytes (01, "The calibration sheet"): "a figure is 8 bytes, two's complement, low byte first".
 use mathlib.Core.Bool.{cond}
 use mathlib.Core.List.{List}
-use Prim.Native.Nat.{ℕ, _+_, _-_, _^_, _<_}
+use Prim.Native.Nat.{ℕ, _+_, _<_}
 use lib.Dec.{leb}
-use lib.IntN.{ℤ, pos, negsuc}
+use lib.IntN.{ℤ, pos}
 use lib.ListN.{length, getD, take, drop}
 pub use Rattle.integers.specs.Bytes.{wordOf, wordBytes}
-use Rattle.integers.specs.Bytes.{signedOf}
+use Rattle.integers.specs.Bytes.{signedOf, unsignedOf}
 
 -- each element is a byte, as in every slice of u8
 abbrev pub Bytes : List ℕ → Type 0
@@ -23,11 +23,6 @@ unfoldable pub figureAt : List ℕ → ℕ → ℤ
 figureAt s at = cond (leb (at + 8) (length s)) (signedOf 64 (wordOf (take 8 (drop at s)))) (pos 0)
 
 -- ---- the bytes of a figure
-
--- two's complement in 64 bits
-abbrev pub unsignedOf : ℤ → ℕ
-unsignedOf (pos n) = n
-unsignedOf (negsuc n) = 2 ^ 64 - 1 - n
 
 unfoldable pub figureBytes : ℤ → List ℕ
 figureBytes v = wordBytes 8 (unsignedOf v)

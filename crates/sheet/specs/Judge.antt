@@ -18,6 +18,7 @@ use Rattle.figures.specs.declared.Linearity.{Linearity}
 use Rattle.figures.specs.declared.System.{System}
 use Rattle.figures.specs.declared.Filter.{Filter}
 use Rattle.figures.specs.declared.Calibration.{Calibration}
+use Rattle.sheet.specs.Places.{temperaturePointSize, linearityPointSize, temperatureStart, linearityStart, systemStart, filterStart}
 
 -- the first fault counts
 infixr 40 _then_
@@ -98,7 +99,7 @@ module _ (short : ℕ → ℕ) where
       then figureNumber (at + 16) ctgMost (getD points i noTemperature .ctg)
 
   unfoldable pub temperatureNumber : ℕ → Temperature → ℕ
-  temperatureNumber at t = countNumber at 2 5 (t .ctn) then pointsNumber (λ i. temperaturePointNumber (at + 1 + 24 * i) (t .points) i) (t .ctn)
+  temperatureNumber at t = countNumber at 2 5 (t .ctn) then pointsNumber (λ i. temperaturePointNumber (at + 1 + temperaturePointSize * i) (t .points) i) (t .ctn)
 
   unfoldable pub linearityPointNumber : ℕ → List LinearityPoint → ℕ → ℕ
   linearityPointNumber at points i =
@@ -108,7 +109,7 @@ module _ (short : ℕ → ℕ) where
       then against noLinearity tooSteep points i
 
   unfoldable pub linearityNumber : ℕ → Linearity → ℕ
-  linearityNumber at l = countNumber at 2 7 (l .cln) then pointsNumber (λ i. linearityPointNumber (at + 1 + 16 * i) (l .points) i) (l .cln)
+  linearityNumber at l = countNumber at 2 7 (l .cln) then pointsNumber (λ i. linearityPointNumber (at + 1 + linearityPointSize * i) (l .points) i) (l .cln)
 
   unfoldable pub systemNumber : ℕ → ℕ → System → ℕ
   systemNumber at count s =
@@ -127,30 +128,17 @@ module _ (short : ℕ → ℕ) where
       then rangeNumber (at + 1) (pos 0) (pos fflvMost) (f .fflv)
       then rangeNumber (at + 9) (pos 0) (pos ffstMost) (f .ffst)
 
--- ---- where each section starts, by the counts of the tables before it
-
-abbrev pub linearityStart : Calibration → ℕ
-linearityStart c = 34 + 24 * c .temperature .ctn
-
-abbrev pub systemStart : Calibration → ℕ
-systemStart c = linearityStart c + 1 + 16 * c .linearity .cln
-
-abbrev pub filterStart : Calibration → ℕ
-filterStart c = systemStart c + 41
-
--- 93 + 24·CTN + 16·CLN
-abbrev pub sheetLength : Calibration → ℕ
-sheetLength c = filterStart c + 17
-
 -- ---- all five, with the counts that stand before cell, system and filter
 
 unfoldable pub sectionsNumber : (ℕ → ℕ) → ℕ → ℕ → ℕ → Calibration → ℕ
 sectionsNumber short cell system filter c =
+    let ctn = c .temperature .ctn in
+    let cln = c .linearity .cln in
     cellNumber short 0 cell (c .cell)
-    then temperatureNumber short 33 (c .temperature)
-    then linearityNumber short (linearityStart c) (c .linearity)
-    then systemNumber short (systemStart c) system (c .system)
-    then filterNumber short (filterStart c) filter (c .filter)
+    then temperatureNumber short temperatureStart (c .temperature)
+    then linearityNumber short (linearityStart ctn) (c .linearity)
+    then systemNumber short (systemStart ctn cln) system (c .system)
+    then filterNumber short (filterStart ctn cln) filter (c .filter)
 
 -- figures by themselves: 2 to 6 in sheet order
 unfoldable pub figuresNumber : Calibration → ℕ

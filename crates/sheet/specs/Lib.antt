@@ -1,4 +1,5 @@
 pub mod Bytes
+pub mod Places
 pub mod Judge
 pub mod Read
 pub mod Write

@@ -15,6 +15,7 @@ use Rattle.figures.specs.declared.System.{System}
 use Rattle.figures.specs.declared.Filter.{Filter}
 use Rattle.figures.specs.declared.Calibration.{Calibration}
 use Rattle.sheet.specs.Bytes.{countAt, figureAt}
+use Rattle.sheet.specs.Places.{temperaturePointSize, linearityPointSize, temperatureStart, linearityStart, systemStart, filterStart, sheetEnd}
 use Rattle.sheet.specs.Judge.{_then_, shortOf, trailing, sectionsNumber}
 use Rattle.sheet.specs.declared.Sheet.{Sheet}
 
@@ -35,10 +36,10 @@ pointsAt none pointAt size cap s at zero = replicate cap none
 pointsAt none pointAt size cap s at (suc i) = set (pointsAt none pointAt size cap s at i) i (pointAt s (at + size * i))
 
 unfoldable pub temperatureAt : List ℕ → ℕ → Temperature
-temperatureAt s at = record { ctn = countAt s at; points = pointsAt noTemperature temperaturePointAt 24 5 s (at + 1) (min (countAt s at) 5) }
+temperatureAt s at = record { ctn = countAt s at; points = pointsAt noTemperature temperaturePointAt temperaturePointSize 5 s (at + 1) (min (countAt s at) 5) }
 
 unfoldable pub linearityAt : List ℕ → ℕ → Linearity
-linearityAt s at = record { cln = countAt s at; points = pointsAt noLinearity linearityPointAt 16 7 s (at + 1) (min (countAt s at) 7) }
+linearityAt s at = record { cln = countAt s at; points = pointsAt noLinearity linearityPointAt linearityPointSize 7 s (at + 1) (min (countAt s at) 7) }
 
 unfoldable pub systemAt : List ℕ → ℕ → System
 systemAt s at = record { sofs = figureAt s (at + 1); sgai = figureAt s (at + 9); smin = figureAt s (at + 17); smax = figureAt s (at + 25); sz = figureAt s (at + 33) }
@@ -48,27 +49,27 @@ filterAt s at = record { fflv = figureAt s (at + 1); ffst = figureAt s (at + 9) 
 
 -- ---- the sheet
 
--- where the linearity and the system section start
-abbrev pub linearityPlace : List ℕ → ℕ
-linearityPlace s = 34 + 24 * countAt s 33
+-- the counts of points that stand in it
+abbrev pub ctnOf : List ℕ → ℕ
+ctnOf s = countAt s temperatureStart
 
-abbrev pub systemPlace : List ℕ → ℕ
-systemPlace s = linearityPlace s + 1 + 16 * countAt s (linearityPlace s)
+abbrev pub clnOf : List ℕ → ℕ
+clnOf s = countAt s (linearityStart (ctnOf s))
 
 unfoldable pub figuresOf : List ℕ → Calibration
 figuresOf s = record {
   cell = cellAt s 0;
-  temperature = temperatureAt s 33;
-  linearity = linearityAt s (linearityPlace s);
-  system = systemAt s (systemPlace s);
-  filter = filterAt s (systemPlace s + 41);
+  temperature = temperatureAt s temperatureStart;
+  linearity = linearityAt s (linearityStart (ctnOf s));
+  system = systemAt s (systemStart (ctnOf s) (clnOf s));
+  filter = filterAt s (filterStart (ctnOf s) (clnOf s));
 }
 
 -- the five sections, and "7 last"
 unfoldable pub sheetNumber : List ℕ → ℕ
 sheetNumber s =
-    sectionsNumber (shortOf (length s)) (countAt s 0) (countAt s (systemPlace s)) (countAt s (systemPlace s + 41)) (figuresOf s)
-    then trailing (length s) (systemPlace s + 58)
+    sectionsNumber (shortOf (length s)) (countAt s 0) (countAt s (systemStart (ctnOf s) (clnOf s))) (countAt s (filterStart (ctnOf s) (clnOf s))) (figuresOf s)
+    then trailing (length s) (sheetEnd (ctnOf s) (clnOf s))
 
 -- "Beside a refusal each value .. is 0"
 unfoldable pub noFigures : Calibration

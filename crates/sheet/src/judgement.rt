@@ -4,8 +4,9 @@ ghost use mathlib.Core.Path.{_≡_};
 ghost use Prim.Native.Nat.{_+_, _*_, _≤_, _<_, _^_};
 ghost use lib.IntN.{natAbs, negℤ, _-ℤ_};
 ghost use Rattle.figures.specs.Unused.{noLinearity, noTemperature};
-ghost use Rattle.sheet.specs.Judge.{_then_, shortOf, notBelow, tooSteep, pointsNumber, against, countNumber, rangeNumber, cellNumber, temperaturePointNumber, temperatureNumber, linearityPointNumber, linearityNumber, systemNumber, filterNumber, sectionsNumber, sheetLength, figuresNumber};
-use crate::bytes::unsigned;
+ghost use Rattle.sheet.specs.Places.{temperaturePointSize, linearityPointSize, sheetLength};
+ghost use Rattle.sheet.specs.Judge.{_then_, shortOf, notBelow, tooSteep, pointsNumber, against, countNumber, rangeNumber, cellNumber, temperaturePointNumber, temperatureNumber, linearityPointNumber, linearityNumber, systemNumber, filterNumber, sectionsNumber, figuresNumber};
+use crate::places;
 use figures::Calibration;
 use figures::Cell;
 use figures::Filter;
@@ -14,6 +15,7 @@ use figures::LinearityPoint;
 use figures::System;
 use figures::Temperature;
 use figures::TemperaturePoint;
+use integers::bytes::unsigned;
 
 // The first fault counts.
 pub fn first(a: u8, b: u8) -> u8
@@ -141,12 +143,17 @@ fn temperature_point_number(room: usize, at: usize, points: [TemperaturePoint; 5
 
 fn temperature_points_number(room: usize, at: usize, points: [TemperaturePoint; 5], n: usize) -> u8
     requires { ⌜ (at < 2 ^ 30) × (n ≤ 5) ⌝ }
-    ensures { λ r. ⌜ r ≡ pointsNumber (λ i. temperaturePointNumber (shortOf room) (at + 24 * i) points i) n ⌝ }
+    ensures { λ r. ⌜ r ≡ pointsNumber (λ i. temperaturePointNumber (shortOf room) (at + temperaturePointSize * i) points i) n ⌝ }
 {
     let mut number: u8 = 0;
     let mut i: usize = 0;
     while i < n {
-        let point = temperature_point_number(room, at + 24 * i, points, i);
+        let point = temperature_point_number(
+            room,
+            at + places::TEMPERATURE_POINT_SIZE * i,
+            points,
+            i,
+        );
         number = first(number, point);
         i += 1;
     }
@@ -206,12 +213,12 @@ fn linearity_point_number(room: usize, at: usize, points: [LinearityPoint; 7], i
 
 fn linearity_points_number(room: usize, at: usize, points: [LinearityPoint; 7], n: usize) -> u8
     requires { ⌜ (at < 2 ^ 30) × (n ≤ 7) ⌝ }
-    ensures { λ r. ⌜ r ≡ pointsNumber (λ i. linearityPointNumber (shortOf room) (at + 16 * i) points i) n ⌝ }
+    ensures { λ r. ⌜ r ≡ pointsNumber (λ i. linearityPointNumber (shortOf room) (at + linearityPointSize * i) points i) n ⌝ }
 {
     let mut number: u8 = 0;
     let mut i: usize = 0;
     while i < n {
-        let point = linearity_point_number(room, at + 16 * i, points, i);
+        let point = linearity_point_number(room, at + places::LINEARITY_POINT_SIZE * i, points, i);
         number = first(number, point);
         i += 1;
     }
@@ -265,13 +272,16 @@ fn filter_number(room: usize, at: usize, count: u8, filter: Filter) -> u8
 pub fn sections_number(room: usize, cell: u8, system: u8, filter: u8, figures: Calibration) -> u8
     ensures { λ r. ⌜ r ≡ sectionsNumber (shortOf room) cell system filter figures ⌝ }
 {
-    let linearity_at = 34 + 24 * (figures.temperature.ctn as usize);
-    let system_at = linearity_at + 1 + 16 * (figures.linearity.cln as usize);
+    let ctn = figures.temperature.ctn;
+    let cln = figures.linearity.cln;
+    let linearity_at = places::linearity_start(ctn);
+    let system_at = places::system_start(ctn, cln);
+    let filter_at = places::filter_start(ctn, cln);
     let in_cell = cell_number(room, 0, cell, figures.cell);
-    let in_temperature = temperature_number(room, 33, figures.temperature);
+    let in_temperature = temperature_number(room, places::TEMPERATURE_START, figures.temperature);
     let in_linearity = linearity_number(room, linearity_at, figures.linearity);
     let in_system = system_number(room, system_at, system, figures.system);
-    let in_filter = filter_number(room, system_at + 41, filter, figures.filter);
+    let in_filter = filter_number(room, filter_at, filter, figures.filter);
     first(
         in_cell,
         first(
@@ -285,7 +295,7 @@ pub fn sections_number(room: usize, cell: u8, system: u8, filter: u8, figures: C
 pub fn sheet_length(figures: Calibration) -> usize
     ensures { λ r. ⌜ (r ≡ sheetLength figures) × (r < 2 ^ 14) ⌝ }
 {
-    93 + 24 * (figures.temperature.ctn as usize) + 16 * (figures.linearity.cln as usize)
+    places::sheet_end(figures.temperature.ctn, figures.linearity.cln)
 }
 
 // Figures by themselves, 2 to 6 in sheet order, or 0: as in a sheet with room for all of them.

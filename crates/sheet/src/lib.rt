@@ -4,11 +4,11 @@ ghost use Rattle.sheet.specs.Step.{started, countStep, figureStep};
 
 mod bytes;
 mod judgement;
+pub mod places;
 mod reading;
 
 use bytes::next_count;
 use bytes::next_figure;
-pub use bytes::unsigned;
 use figures::Calibration;
 pub use judgement::judge;
 pub use judgement::sheet_length;

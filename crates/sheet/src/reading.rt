@@ -2,11 +2,13 @@
 ghost use mathlib.Core.Path.{_≡_};
 ghost use Prim.Native.Nat.{_+_, _*_, _≤_, _<_, _^_, min};
 ghost use Rattle.figures.specs.Unused.{noLinearity, noTemperature};
-ghost use Rattle.sheet.specs.Read.{cellAt, temperaturePointAt, linearityPointAt, pointsAt, temperatureAt, linearityAt, systemAt, filterAt, linearityPlace, systemPlace, figuresOf, sheetNumber, noFigures, readSheet};
+ghost use Rattle.sheet.specs.Places.{temperaturePointSize, linearityPointSize};
+ghost use Rattle.sheet.specs.Read.{cellAt, temperaturePointAt, linearityPointAt, pointsAt, temperatureAt, linearityAt, systemAt, filterAt, ctnOf, clnOf, figuresOf, sheetNumber, noFigures, readSheet};
 use crate::Sheet;
 use crate::bytes::count_at;
 use crate::bytes::figure_at;
 use crate::judgement::sections_number;
+use crate::places;
 use figures::Calibration;
 use figures::Cell;
 use figures::Filter;
@@ -54,7 +56,7 @@ fn temperature_point_at(s: &[u8], at: usize) -> TemperaturePoint
 
 fn temperature_points_at(s: &[u8], at: usize, n: usize) -> [TemperaturePoint; 5]
     requires { ⌜ (at < 2 ^ 30) × (n ≤ 5) ⌝ }
-    ensures { λ r. ⌜ r ≡ pointsAt noTemperature temperaturePointAt 24 5 (now (s .entry)) at n ⌝ }
+    ensures { λ r. ⌜ r ≡ pointsAt noTemperature temperaturePointAt temperaturePointSize 5 (now (s .entry)) at n ⌝ }
 {
     let none = TemperaturePoint {
         ct: 0,
@@ -64,7 +66,7 @@ fn temperature_points_at(s: &[u8], at: usize, n: usize) -> [TemperaturePoint; 5]
     let mut points = [none; 5];
     let mut i: usize = 0;
     while i < n {
-        let point = temperature_point_at(s, at + 24 * i);
+        let point = temperature_point_at(s, at + places::TEMPERATURE_POINT_SIZE * i);
         points[i] = point;
         i += 1;
     }
@@ -91,13 +93,13 @@ fn linearity_point_at(s: &[u8], at: usize) -> LinearityPoint
 
 fn linearity_points_at(s: &[u8], at: usize, n: usize) -> [LinearityPoint; 7]
     requires { ⌜ (at < 2 ^ 30) × (n ≤ 7) ⌝ }
-    ensures { λ r. ⌜ r ≡ pointsAt noLinearity linearityPointAt 16 7 (now (s .entry)) at n ⌝ }
+    ensures { λ r. ⌜ r ≡ pointsAt noLinearity linearityPointAt linearityPointSize 7 (now (s .entry)) at n ⌝ }
 {
     let none = LinearityPoint { clx: 0, clk: 0 };
     let mut points = [none; 7];
     let mut i: usize = 0;
     while i < n {
-        let point = linearity_point_at(s, at + 16 * i);
+        let point = linearity_point_at(s, at + places::LINEARITY_POINT_SIZE * i);
         points[i] = point;
         i += 1;
     }
@@ -140,30 +142,29 @@ fn filter_at(s: &[u8], at: usize) -> Filter
     Filter { fflv, ffst }
 }
 
-// Past the temperature points.
-fn linearity_place(s: &[u8]) -> usize
-    ensures { λ r. ⌜ (r ≡ linearityPlace (now (s .entry))) × (r < 2 ^ 13) ⌝ }
+// The counts of points that stand in a sheet.
+fn ctn_of(s: &[u8]) -> u8
+    ensures { λ r. ⌜ r ≡ ctnOf (now (s .entry)) ⌝ }
 {
-    34 + 24 * (count_at(s, 33) as usize)
+    count_at(s, places::TEMPERATURE_START)
 }
 
-// Past the linearity points.
-fn system_place(s: &[u8]) -> usize
-    ensures { λ r. ⌜ (r ≡ systemPlace (now (s .entry))) × (r < 2 ^ 14) ⌝ }
+fn cln_of(s: &[u8]) -> u8
+    ensures { λ r. ⌜ r ≡ clnOf (now (s .entry)) ⌝ }
 {
-    let at = linearity_place(s);
-    at + 1 + 16 * (count_at(s, at) as usize)
+    count_at(s, places::linearity_start(ctn_of(s)))
 }
 
 fn figures_of(s: &[u8]) -> Calibration
     ensures { λ r. ⌜ r ≡ figuresOf (now (s .entry)) ⌝ }
 {
-    let system_from = system_place(s);
+    let ctn = ctn_of(s);
+    let cln = cln_of(s);
     let cell = cell_at(s, 0);
-    let temperature = temperature_at(s, 33);
-    let linearity = linearity_at(s, linearity_place(s));
-    let system = system_at(s, system_from);
-    let filter = filter_at(s, system_from + 41);
+    let temperature = temperature_at(s, places::TEMPERATURE_START);
+    let linearity = linearity_at(s, places::linearity_start(ctn));
+    let system = system_at(s, places::system_start(ctn, cln));
+    let filter = filter_at(s, places::filter_start(ctn, cln));
     Calibration {
         cell,
         temperature,
@@ -178,15 +179,16 @@ fn sheet_number(s: &[u8], figures: Calibration) -> u8
     requires { ⌜ figures ≡ figuresOf (now s) ⌝ }
     ensures { λ r. ⌜ r ≡ sheetNumber (now (s .entry)) ⌝ }
 {
-    let system_from = system_place(s);
+    let ctn = ctn_of(s);
+    let cln = cln_of(s);
     let cell = count_at(s, 0);
-    let system = count_at(s, system_from);
-    let filter = count_at(s, system_from + 41);
+    let system = count_at(s, places::system_start(ctn, cln));
+    let filter = count_at(s, places::filter_start(ctn, cln));
     let sections = sections_number(s.len(), cell, system, filter, figures);
     if sections != 0 {
         return sections;
     }
-    if system_from + 58 < s.len() {
+    if places::sheet_end(ctn, cln) < s.len() {
         return 7;
     }
     0

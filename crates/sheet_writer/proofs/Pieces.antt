@@ -12,7 +12,8 @@ use borrow.Author.Tests.{lt-ltb, le-ltb, ne-eqb}
 use Rattle.integers.specs.Bytes.{Put}
 use Rattle.figures.specs.declared.Calibration.{Calibration}
 use Rattle.sheet_writer.specs.declared.Written.{Written}
-use Rattle.sheet.specs.Judge.{figuresNumber, sheetLength}
+use Rattle.sheet.specs.Places.{sheetLength}
+use Rattle.sheet.specs.Judge.{figuresNumber}
 use Rattle.sheet.specs.Write.{pointsBytes, sheetBytes}
 use Rattle.sheet_writer.specs.Write.{writeNumber, writtenOf, outAfter}
 use Rattle.sheet.proofs.Chain.{then-stop}

@@ -12,7 +12,8 @@ use lib.Seq.{take-at, drop-at}
 use Rattle.figures.specs.Acceptable.{Acceptable}
 use Rattle.figures.specs.Representable.{Representable}
 use Rattle.figures.specs.declared.Calibration.{Calibration}
-use Rattle.sheet.specs.Judge.{_then_, figuresNumber, sheetLength}
+use Rattle.sheet.specs.Places.{sheetLength}
+use Rattle.sheet.specs.Judge.{_then_, figuresNumber}
 use Rattle.sheet.specs.Write.{sheetBytes}
 use Rattle.sheet.proofs.Accepted.{figures-acceptable, acceptable-figures, acceptable-fits}
 use Rattle.sheet.proofs.Range.{figures-numbers}

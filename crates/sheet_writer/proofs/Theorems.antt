@@ -9,7 +9,7 @@ use Rattle.figures.specs.Acceptable.{Acceptable}
 use Rattle.figures.specs.Representable.{Representable}
 use Rattle.figures.specs.Unused.{unusedZero}
 use Rattle.figures.specs.declared.Calibration.{Calibration}
-use Rattle.sheet.specs.Judge.{sheetLength}
+use Rattle.sheet.specs.Places.{sheetLength}
 use Rattle.sheet.specs.Read.{readSheet}
 use Rattle.sheet.specs.Write.{sheetBytes}
 use Rattle.sheet.proofs.Accepted.{acceptable-figures, acceptable-fits}

@@ -5,7 +5,8 @@ use Prim.Native.Nat.{ℕ}
 use lib.Dec.{ltb, eqb}
 use lib.ListN.{length, drop}
 use Rattle.figures.specs.declared.Calibration.{Calibration}
-use Rattle.sheet.specs.Judge.{_then_, figuresNumber, sheetLength}
+use Rattle.sheet.specs.Places.{sheetLength}
+use Rattle.sheet.specs.Judge.{_then_, figuresNumber}
 use Rattle.sheet.specs.Write.{sheetBytes}
 use Rattle.sheet_writer.specs.declared.Written.{Written}
 

@@ -7,7 +7,7 @@ ghost use lib.ListN.{length};
 ghost use Rattle.integers.specs.Bytes.{Put};
 ghost use Rattle.figures.specs.Unused.{noLinearity, noTemperature};
 ghost use Rattle.sheet.specs.Bytes.{figureBytes};
-ghost use Rattle.sheet.specs.Judge.{sheetLength};
+ghost use Rattle.sheet.specs.Places.{cellSize, systemSize, filterSize, temperaturePointSize, linearityPointSize, sheetLength};
 ghost use Rattle.sheet.specs.Write.{cellBytes, temperaturePointBytes, linearityPointBytes, pointsBytes, temperatureBytes, linearityBytes, systemBytes, filterBytes, sheetBytes};
 ghost use Rattle.sheet_writer.specs.Write.{writtenOf, outAfter};
 use figures::Calibration;
@@ -18,9 +18,11 @@ use figures::LinearityPoint;
 use figures::System;
 use figures::Temperature;
 use figures::TemperaturePoint;
+use integers::bytes::put_word;
+use integers::bytes::unsigned;
 use sheet::judge;
+use sheet::places;
 use sheet::sheet_length;
-use sheet::unsigned;
 
 // 0 and the bytes written; or the number of the refusal, and 0.
 #[repr(C)]
@@ -33,13 +35,8 @@ fn put_figure(out: &mut [u8], at: usize, v: i64)
     requires { ⌜ at + 8 ≤ length (now out) ⌝ }
     ensures { λ _. ⌜ Put (figureBytes v) (now (out .entry)) at (now (out .exit)) (at + 8) ⌝ }
 {
-    let mut word = unsigned(v);
-    let mut i: usize = 0;
-    while i < 8 {
-        out[at + i] = (word % 256) as u8;
-        word = word / 256;
-        i += 1;
-    }
+    let word = unsigned(v);
+    put_word(out, at, word, 8);
 }
 
 fn put_four(out: &mut [u8], at: usize, a: i64, b: i64, c: i64, d: i64)
@@ -53,16 +50,16 @@ fn put_four(out: &mut [u8], at: usize, a: i64, b: i64, c: i64, d: i64)
 }
 
 fn put_cell(out: &mut [u8], at: usize, cell: Cell)
-    requires { ⌜ at + 33 ≤ length (now out) ⌝ }
-    ensures { λ _. ⌜ Put (cellBytes cell) (now (out .entry)) at (now (out .exit)) (at + 33) ⌝ }
+    requires { ⌜ at + cellSize ≤ length (now out) ⌝ }
+    ensures { λ _. ⌜ Put (cellBytes cell) (now (out .entry)) at (now (out .exit)) (at + cellSize) ⌝ }
 {
     out[at] = 4;
     put_four(out, at + 1, cell.cofs, cell.cgai, cell.cmin, cell.cmax);
 }
 
 fn put_temperature_point(out: &mut [u8], at: usize, point: TemperaturePoint)
-    requires { ⌜ at + 24 ≤ length (now out) ⌝ }
-    ensures { λ _. ⌜ Put (temperaturePointBytes point) (now (out .entry)) at (now (out .exit)) (at + 24) ⌝ }
+    requires { ⌜ at + temperaturePointSize ≤ length (now out) ⌝ }
+    ensures { λ _. ⌜ Put (temperaturePointBytes point) (now (out .entry)) at (now (out .exit)) (at + temperaturePointSize) ⌝ }
 {
     put_figure(out, at, point.ct);
     put_figure(out, at + 8, point.cto);
@@ -71,20 +68,20 @@ fn put_temperature_point(out: &mut [u8], at: usize, point: TemperaturePoint)
 
 // The first `n` points.
 fn put_temperature_points(out: &mut [u8], at: usize, points: [TemperaturePoint; 5], n: usize)
-    requires { ⌜ (n ≤ 5) × (at + 24 * n ≤ length (now out)) ⌝ }
-    ensures { λ _. ⌜ Put (pointsBytes noTemperature temperaturePointBytes points n) (now (out .entry)) at (now (out .exit)) (at + 24 * n) ⌝ }
+    requires { ⌜ (n ≤ 5) × (at + temperaturePointSize * n ≤ length (now out)) ⌝ }
+    ensures { λ _. ⌜ Put (pointsBytes noTemperature temperaturePointBytes points n) (now (out .entry)) at (now (out .exit)) (at + temperaturePointSize * n) ⌝ }
 {
     let mut i: usize = 0;
     while i < n {
         let point = points[i];
-        put_temperature_point(out, at + 24 * i, point);
+        put_temperature_point(out, at + places::TEMPERATURE_POINT_SIZE * i, point);
         i += 1;
     }
 }
 
 fn put_temperature(out: &mut [u8], at: usize, temperature: Temperature)
-    requires { ⌜ (temperature .ctn ≤ 5) × (at + 1 + 24 * temperature .ctn ≤ length (now out)) ⌝ }
-    ensures { λ _. ⌜ Put (temperatureBytes temperature) (now (out .entry)) at (now (out .exit)) (at + 1 + 24 * temperature .ctn) ⌝ }
+    requires { ⌜ (temperature .ctn ≤ 5) × (at + 1 + temperaturePointSize * temperature .ctn ≤ length (now out)) ⌝ }
+    ensures { λ _. ⌜ Put (temperatureBytes temperature) (now (out .entry)) at (now (out .exit)) (at + 1 + temperaturePointSize * temperature .ctn) ⌝ }
 {
     let ctn = temperature.ctn;
     let points = temperature.points;
@@ -93,8 +90,8 @@ fn put_temperature(out: &mut [u8], at: usize, temperature: Temperature)
 }
 
 fn put_linearity_point(out: &mut [u8], at: usize, point: LinearityPoint)
-    requires { ⌜ at + 16 ≤ length (now out) ⌝ }
-    ensures { λ _. ⌜ Put (linearityPointBytes point) (now (out .entry)) at (now (out .exit)) (at + 16) ⌝ }
+    requires { ⌜ at + linearityPointSize ≤ length (now out) ⌝ }
+    ensures { λ _. ⌜ Put (linearityPointBytes point) (now (out .entry)) at (now (out .exit)) (at + linearityPointSize) ⌝ }
 {
     put_figure(out, at, point.clx);
     put_figure(out, at + 8, point.clk);
@@ -102,20 +99,20 @@ fn put_linearity_point(out: &mut [u8], at: usize, point: LinearityPoint)
 
 // The first `n` points.
 fn put_linearity_points(out: &mut [u8], at: usize, points: [LinearityPoint; 7], n: usize)
-    requires { ⌜ (n ≤ 7) × (at + 16 * n ≤ length (now out)) ⌝ }
-    ensures { λ _. ⌜ Put (pointsBytes noLinearity linearityPointBytes points n) (now (out .entry)) at (now (out .exit)) (at + 16 * n) ⌝ }
+    requires { ⌜ (n ≤ 7) × (at + linearityPointSize * n ≤ length (now out)) ⌝ }
+    ensures { λ _. ⌜ Put (pointsBytes noLinearity linearityPointBytes points n) (now (out .entry)) at (now (out .exit)) (at + linearityPointSize * n) ⌝ }
 {
     let mut i: usize = 0;
     while i < n {
         let point = points[i];
-        put_linearity_point(out, at + 16 * i, point);
+        put_linearity_point(out, at + places::LINEARITY_POINT_SIZE * i, point);
         i += 1;
     }
 }
 
 fn put_linearity(out: &mut [u8], at: usize, linearity: Linearity)
-    requires { ⌜ (linearity .cln ≤ 7) × (at + 1 + 16 * linearity .cln ≤ length (now out)) ⌝ }
-    ensures { λ _. ⌜ Put (linearityBytes linearity) (now (out .entry)) at (now (out .exit)) (at + 1 + 16 * linearity .cln) ⌝ }
+    requires { ⌜ (linearity .cln ≤ 7) × (at + 1 + linearityPointSize * linearity .cln ≤ length (now out)) ⌝ }
+    ensures { λ _. ⌜ Put (linearityBytes linearity) (now (out .entry)) at (now (out .exit)) (at + 1 + linearityPointSize * linearity .cln) ⌝ }
 {
     let cln = linearity.cln;
     let points = linearity.points;
@@ -124,8 +121,8 @@ fn put_linearity(out: &mut [u8], at: usize, linearity: Linearity)
 }
 
 fn put_system(out: &mut [u8], at: usize, system: System)
-    requires { ⌜ at + 41 ≤ length (now out) ⌝ }
-    ensures { λ _. ⌜ Put (systemBytes system) (now (out .entry)) at (now (out .exit)) (at + 41) ⌝ }
+    requires { ⌜ at + systemSize ≤ length (now out) ⌝ }
+    ensures { λ _. ⌜ Put (systemBytes system) (now (out .entry)) at (now (out .exit)) (at + systemSize) ⌝ }
 {
     out[at] = 5;
     put_four(
@@ -140,8 +137,8 @@ fn put_system(out: &mut [u8], at: usize, system: System)
 }
 
 fn put_filter(out: &mut [u8], at: usize, filter: Filter)
-    requires { ⌜ at + 17 ≤ length (now out) ⌝ }
-    ensures { λ _. ⌜ Put (filterBytes filter) (now (out .entry)) at (now (out .exit)) (at + 17) ⌝ }
+    requires { ⌜ at + filterSize ≤ length (now out) ⌝ }
+    ensures { λ _. ⌜ Put (filterBytes filter) (now (out .entry)) at (now (out .exit)) (at + filterSize) ⌝ }
 {
     out[at] = 2;
     put_figure(out, at + 1, filter.fflv);
@@ -153,13 +150,16 @@ fn put_sheet(out: &mut [u8], figures: Calibration)
     requires { ⌜ (figures .temperature .ctn ≤ 5) × (figures .linearity .cln ≤ 7) × (sheetLength figures ≤ length (now out)) ⌝ }
     ensures { λ _. ⌜ Put (sheetBytes figures) (now (out .entry)) 0 (now (out .exit)) (sheetLength figures) ⌝ }
 {
-    let linearity_at = 34 + 24 * (figures.temperature.ctn as usize);
-    let system_at = linearity_at + 1 + 16 * (figures.linearity.cln as usize);
+    let ctn = figures.temperature.ctn;
+    let cln = figures.linearity.cln;
+    let linearity_at = places::linearity_start(ctn);
+    let system_at = places::system_start(ctn, cln);
+    let filter_at = places::filter_start(ctn, cln);
     put_cell(out, 0, figures.cell);
-    put_temperature(out, 33, figures.temperature);
+    put_temperature(out, places::TEMPERATURE_START, figures.temperature);
     put_linearity(out, linearity_at, figures.linearity);
     put_system(out, system_at, figures.system);
-    put_filter(out, system_at + 41, figures.filter);
+    put_filter(out, filter_at, figures.filter);
 }
 
 // Writes a sheet at the front of `out`, or refuses and leaves `out` as it was.

@@ -3,15 +3,16 @@ use mathlib.Core.List.{List}
 use Prim.Native.Nat.{ℕ, zero, suc}
 use lib.ListN.{length}
 use Rattle.sheet.specs.Bytes.{countAt}
+use Rattle.sheet.specs.Places.{cellSize}
 use Rattle.sheet.specs.Judge.{shortOf}
 use Rattle.sheet.specs.Read.{cellAt}
 use Rattle.sheet.specs.Step.{countFound, figureFound}
 use Rattle.tour.specs.declared.contents.CellSection.{CellSection}
 
--- "cell | 4 | COFS ..; CGAI ..; CMIN, CMAX": a count and four figures, 33 bytes; 1, where the sheet "ends before a count or figure that
+-- "cell | 4 | COFS ..; CGAI ..; CMIN, CMAX": a count and four figures; 1, where the sheet "ends before a count or figure that
 -- is due", and 0 for what is missing
 unfoldable pub cellSection : List ℕ → CellSection
-cellSection s = record { number = shortOf (length s) 33; count = countAt s 0; cell = cellAt s 0 }
+cellSection s = record { number = shortOf (length s) cellSize; count = countAt s 0; cell = cellAt s 0 }
 
 -- the place after n figures from a place on
 abbrev pub figuresEnd : List ℕ → ℕ → ℕ → ℕ

@@ -4,11 +4,12 @@ ghost use Rattle.tour.specs.Contents.{figuresEnd, pointsEnd, sectionEnd}
 use crate::contents;
 use crate::lines;
 use sheet::FigureFound;
+use sheet::places;
 
-// "Five sections in this order": behind the 33 bytes of the cell section each starts where the one before ends.
+// "Five sections in this order": behind the cell section each starts where the one before ends.
 pub(crate) fn print_sheet(sheet: &[u8]) {
     print_cell(b"cell", sheet);
-    let linearity = print_section(b"temperature", sheet, 33, 3);
+    let linearity = print_section(b"temperature", sheet, places::TEMPERATURE_START, 3);
     let system = print_section(b"linearity", sheet, linearity, 2);
     let filter = print_section(b"system", sheet, system, 1);
     print_section(b"filter", sheet, filter, 1);

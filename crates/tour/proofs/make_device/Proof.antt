@@ -8,7 +8,7 @@ use lib.Seq.{take-at, length-take-le}
 use Rattle.figures.specs.Default.{defaultSheet}
 use Rattle.figures.specs.declared.Calibration.{Calibration}
 use Rattle.figures.proofs.Default.{default-representable, default-acceptable}
-use Rattle.sheet.specs.Judge.{sheetLength}
+use Rattle.sheet.specs.Places.{sheetLength}
 use Rattle.sheet.specs.Write.{sheetBytes}
 use Rattle.sheet.proofs.Accepted.{acceptable-figures, acceptable-fits}
 use Rattle.sheet.proofs.Theorems.{written-length}

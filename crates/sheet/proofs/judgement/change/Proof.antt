@@ -2,8 +2,8 @@
 use Rattle.integers.proofs.Machine.{fits}
 use Rattle.integers.proofs.Order.{<-≤, lt-no, lt-yes}
 use Rattle.integers.proofs.Magnitude.{abs-swap}
-use Rattle.sheet.proofs.TwosComplement.{apart}
-use Rattle.sheet.specs.Bytes.{unsignedOf}
+use Rattle.integers.proofs.TwosComplement.{apart}
+use Rattle.integers.specs.Bytes.{unsignedOf}
 use lib.Signed.{ltZ}
 use mathlib.Core.Bool.{false, true}
 use mathlib.Core.Path.{_∙_, _≡_, ap}

@@ -1,7 +1,8 @@
 -- In a sheet with room for all figures nothing is missing (Whole.antt). Assumes nothing.
 use Rattle.sheet.proofs.Numbers.{in-short}
 use Rattle.sheet.proofs.Whole.{sections-whole}
-use Rattle.sheet.specs.Judge.{figuresNumber, sheetLength, shortOf}
+use Rattle.sheet.specs.Places.{sheetLength}
+use Rattle.sheet.specs.Judge.{figuresNumber, shortOf}
 use mathlib.Core.Path.{_∙_}
 use borrow.Author.Needs.{needs}
 use Rattle.sheet.proofs.judgement.judge.Statement.{statement}

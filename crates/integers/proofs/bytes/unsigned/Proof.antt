@@ -1,6 +1,6 @@
 -- A negative number is −1 less a number of 63 bits, and its word the complement of that. Assumes nothing.
 use Rattle.integers.proofs.Machine.{fits}
-use Rattle.sheet.proofs.TwosComplement.{abs-mag, not-negative, turned, word-negative}
+use Rattle.integers.proofs.TwosComplement.{abs-mag, not-negative, turned, word-negative}
 use lib.IntN.{pos}
 use lib.Signed.{ltZ, mag}
 use mathlib.Core.Bool.{false, true}
@@ -9,8 +9,8 @@ use mir.Facts.{toZ-ofZ}
 use mir.Syntax.{w64}
 use mir.Val.{SFits}
 use native.Mathlib.Omega.{arith}
-use Rattle.sheet.proofs.bytes.unsigned.Statement.{statement}
-use Rattle.sheet.proofs.bytes.unsigned.Tie as tie
+use Rattle.integers.proofs.bytes.unsigned.Statement.{statement}
+use Rattle.integers.proofs.bytes.unsigned.Tie as tie
 
 sub-result : tie.Need-sub-result
 sub-result c =
