@@ -11,18 +11,6 @@ use borrow.Author.Needs.{needs}
 use Rattle.answers.proofs.register_at.Statement.{statement}
 use Rattle.answers.proofs.register_at.Tie as tie
 
-returns : tie.Need-returns
-unfolding registerAt
-returns c = simp (le-leb _ _ (c .before .if1 .taken)) (c .panel-at .ensures)
-
-returns-2 : tie.Need-returns-2
-unfolding registerAt
-returns-2 c = simp (lt-leb _ _ (c .before .before .if1 .left), eq-eqb _ _ (c .before .if2 .taken)) (ap Value (c .float-of-whole .ensures))
-
-returns-3 : tie.Need-returns-3
-unfolding registerAt
-returns-3 c = let e = c .before .before in simp (lt-leb _ _ (e .before .if1 .left), ne-eqb _ _ (e .if2 .left), eq-eqb _ _ (c .before .if3 .taken)) (ap Value (c .float-of-steps .ensures ∙ ap stepFloat (toZ-ofZ w64 _ (e .before .before .fits .sz))))
-
 returns-4 : tie.Need-returns-4
 unfolding registerAt
 returns-4 c =
@@ -30,16 +18,17 @@ returns-4 c =
     simp (lt-leb _ _ (t .before .before .before .if1 .left), ne-eqb _ _ (t .before .before .if2 .left), ne-eqb _ _ (t .before .if3 .left), eq-eqb _ _ (t .if4 .taken), c .before .before .if5 .taken)
     (ap Value (c .float-of-steps2 .ensures ∙ ap stepFloat (kept (t .before .before .before .before .pre .sysn-in))))
 
-returns-5 : tie.Need-returns-5
-unfolding registerAt
-returns-5 c = let t = c .before .before in simp (lt-leb _ _ (t .before .before .before .if1 .left), ne-eqb _ _ (t .before .before .if2 .left), ne-eqb _ _ (t .before .if3 .left), eq-eqb _ _ (t .if4 .taken), c .if5 .left)
-
-returns-6 : tie.Need-returns-6
-unfolding registerAt
-returns-6 c = let t = c .before in simp (lt-leb _ _ (t .before .before .before .if1 .left), ne-eqb _ _ (t .before .before .if2 .left), ne-eqb _ _ (t .before .if3 .left), ne-eqb _ _ (t .if4 .left)) (c .reading-at .ensures)
-
 pub register-at-spec : {M : Type 1} → statement M
+unfolding registerAt
 register-at-spec =
     tie.close
-    (tie.spec (λ c κs. c .before .pre .copy-in) returns (λ c κs. search needs) returns-2 (λ c κs. kept-within (c .before .before .before .pre .sz-in)) returns-3
-    (λ c κs. kept-within (c .before .before .before .before .before .before .before .pre .sysn-in)) returns-4 returns-5 (λ c κs. c .before .before .before .before .pre .readings-in) returns-6)
+    (tie.spec
+    (λ c κs. c .before .pre .copy-in)
+    (λ c. simp (le-leb _ _ (c .before .if1 .taken)) (c .panel-at .ensures)) (λ c κs. search needs)
+    (λ c. simp (lt-leb _ _ (c .before .before .if1 .left), eq-eqb _ _ (c .before .if2 .taken)) (ap Value (c .float-of-whole .ensures)))
+    (λ c κs. kept-within (c .before .before .before .pre .sz-in))
+    (λ c. let e = c .before .before in simp (lt-leb _ _ (e .before .if1 .left), ne-eqb _ _ (e .if2 .left), eq-eqb _ _ (c .before .if3 .taken)) (ap Value (c .float-of-steps .ensures ∙ ap stepFloat (toZ-ofZ w64 _ (e .before .before .fits .sz)))))
+    (λ c κs. kept-within (c .before .before .before .before .before .before .before .pre .sysn-in)) returns-4
+    (λ c. let t = c .before .before in simp (lt-leb _ _ (t .before .before .before .if1 .left), ne-eqb _ _ (t .before .before .if2 .left), ne-eqb _ _ (t .before .if3 .left), eq-eqb _ _ (t .if4 .taken), c .if5 .left))
+    (λ c κs. c .before .before .before .before .pre .readings-in)
+    (λ c. let t = c .before in simp (lt-leb _ _ (t .before .before .before .if1 .left), ne-eqb _ _ (t .before .before .if2 .left), ne-eqb _ _ (t .before .if3 .left), ne-eqb _ _ (t .if4 .left)) (c .reading-at .ensures)))

@@ -9,15 +9,6 @@ use borrow.Author.Needs.{needs}
 use Rattle.checksum.proofs.sixty_four_shifts.Statement.{statement}
 use Rattle.checksum.proofs.sixty_four_shifts.Tie as tie
 
-mul-multiple : tie.Need-mul-multiple
-mul-multiple c = omega (arith, upper-fits (c .args .x) (omega arith))
-
-mul-result : tie.Need-mul-result
-mul-result c = omega (arith, remainder-fits (c .args .x) (omega arith))
-
-cast-result : tie.Need-cast-result
-cast-result c = omega (arith, remainder-fits (c .args .x) (omega arith))
-
 returns : tie.Need-returns
 unfolding sixtyFour
 returns c =
@@ -29,5 +20,7 @@ returns c =
 pub sixty-four-shifts-spec : {M : Type 1} → statement M
 sixty-four-shifts-spec =
     tie.close
-    (tie.spec (λ c. search needs) mul-multiple (λ c. search needs) (λ c. search needs) (λ c. search needs)
-    (λ c. search needs) mul-result cast-result (λ c. search needs) returns)
+    (tie.spec (λ c. search needs)
+    (λ c. omega (arith, upper-fits (c .args .x) (omega arith))) (λ c. search needs) (λ c. search needs) (λ c. search needs) (λ c. search needs)
+    (λ c. omega (arith, remainder-fits (c .args .x) (omega arith)))
+    (λ c. omega (arith, remainder-fits (c .args .x) (omega arith))) (λ c. search needs) returns)

@@ -13,18 +13,6 @@ use borrow.Author.Needs.{needs}
 use Rattle.checksum.proofs.take_two.Statement.{statement}
 use Rattle.checksum.proofs.take_two.Tie as tie
 
-cast-sixteen-shifts : tie.Need-cast-sixteen-shifts
-cast-sixteen-shifts c = omega (arith, c .shared-slice-known2 .given (c .before .before .args .i + 1))
-
-mul-sixteen-shifts : tie.Need-mul-sixteen-shifts
-mul-sixteen-shifts c = omega (arith, c .shared-slice-known2 .given (c .before .before .args .i + 1))
-
-cast-sixteen-shifts-2 : tie.Need-cast-sixteen-shifts-2
-cast-sixteen-shifts-2 c = omega (arith, c .shared-slice-known3 .given (c .before .before .before .args .i))
-
-add-sixteen-shifts-2 : tie.Need-add-sixteen-shifts-2
-add-sixteen-shifts-2 c = let i = c .before .before .before .args .i in omega (arith, c .shared-slice-known3 .given i, c .shared-slice-known3 .given (i + 1))
-
 returns : tie.Need-returns
 returns c =
     let a = c .before .before .before .before .args in
@@ -36,5 +24,9 @@ returns c =
 pub take-two-spec : {M : Type 1} → statement M
 take-two-spec =
     tie.close
-    (tie.spec (λ c. search needs) (λ c. search needs) cast-sixteen-shifts mul-sixteen-shifts (λ c. search needs)
-    cast-sixteen-shifts-2 add-sixteen-shifts-2 (λ c κs. search needs) returns)
+    (tie.spec (λ c. search needs) (λ c. search needs)
+    (λ c. omega (arith, c .shared-slice-known2 .given (c .before .before .args .i + 1)))
+    (λ c. omega (arith, c .shared-slice-known2 .given (c .before .before .args .i + 1))) (λ c. search needs)
+    (λ c. omega (arith, c .shared-slice-known3 .given (c .before .before .before .args .i)))
+    (λ c. let i = c .before .before .before .args .i in omega (arith, c .shared-slice-known3 .given i, c .shared-slice-known3 .given (i + 1)))
+    (λ c κs. search needs) returns)

@@ -6,17 +6,11 @@ use borrow.Author.Needs.{needs}
 use Rattle.in_force.proofs.setup_by.Statement.{statement}
 use Rattle.in_force.proofs.setup_by.Tie as tie
 
-returns : tie.Need-returns
-unfolding setupBy
-returns c = by-case (setupBy _) (c .before .before .frame .given .1) (c .write .ensures)
-
-returns-2 : tie.Need-returns-2
-unfolding setupBy
-returns-2 c = by-case (setupBy _) (c .before .before .frame2 .given .1) (c .act .ensures)
-
-returns-3 : tie.Need-returns-3
-unfolding setupBy
-returns-3 c = neither (setupBy (c .before .args .setup)) (λ n. refl) (λ r. refl) (c .before .args .frame) (c .match .keys3)
-
 pub setup-by-spec : {M : Type 1} → statement M
-setup-by-spec = tie.close (tie.spec (λ c. search needs) (λ c κs. search needs) (λ c. search needs) (λ c κs. search needs) returns returns-2 returns-3)
+unfolding setupBy
+setup-by-spec =
+    tie.close
+    (tie.spec (λ c. search needs) (λ c κs. search needs) (λ c. search needs) (λ c κs. search needs)
+    (λ c. by-case (setupBy _) (c .before .before .frame .given .1) (c .write .ensures))
+    (λ c. by-case (setupBy _) (c .before .before .frame2 .given .1) (c .act .ensures))
+    (λ c. neither (setupBy (c .before .args .setup)) (λ n. refl) (λ r. refl) (c .before .args .frame) (c .match .keys3)))

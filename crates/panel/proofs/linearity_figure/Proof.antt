@@ -33,24 +33,13 @@ returns : tie.Need-returns
 unfolding linearityFigure
 returns c = let s = c .before .before .before in toZ-pos w64 _ (omega arith) ∙ ap (linearityFigure (s .args .l)) (sym (c .before .match .keys1))
 
-returns-2 : tie.Need-returns-2
-returns-2 c = let s = c .before .before .before .before .before .before in search (toZ-ofZ, sfits-of) ∙ clx-at (s .args .l) (s .args .register) (omega arith) (omega arith)
-
-returns-3 : tie.Need-returns-3
-returns-3 c = let s = c .before .before .before .before .before .before .before .before in search (toZ-ofZ, sfits-of) ∙ clk-at (s .args .l) (s .args .register) (omega arith) (omega arith)
-
-returns-4 : tie.Need-returns-4
-returns-4 c = let s = c .before .before .before in none-1 (s .args .l) (s .args .register) (c .before .match .rest .1) (omega arith)
-
-returns-5 : tie.Need-returns-5
-returns-5 c = let s = c .before .before .before .before .before in none-2 (s .args .l) (s .args .register) (c .before .before .before .match .rest .1) (omega arith) (omega arith)
-
-returns-6 : tie.Need-returns-6
-returns-6 c = let s = c .before .before .before .before .before .before in none-3 (s .args .l) (s .args .register) (c .before .before .before .before .match .rest .1) (omega arith)
-
 pub linearity-figure-spec : {M : Type 1} → statement M
 linearity-figure-spec =
     tie.close
-    (tie.spec (λ c. search needs) (λ c. search needs) (λ c. search needs) (λ c. search needs) (λ c. search needs)
-    (λ c. search needs) (λ c. search needs) (λ c. search needs) returns returns-2 returns-3 returns-4 returns-5
-    returns-6)
+    (tie.spec (λ c. search needs) (λ c. search needs) (λ c. search needs) (λ c. search needs) (λ c. search needs) (λ c. search needs)
+    (λ c. search needs) (λ c. search needs) returns
+    (λ c. let s = c .before .before .before .before .before .before in search (toZ-ofZ, sfits-of) ∙ clx-at (s .args .l) (s .args .register) (omega arith) (omega arith))
+    (λ c. let s = c .before .before .before .before .before .before .before .before in search (toZ-ofZ, sfits-of) ∙ clk-at (s .args .l) (s .args .register) (omega arith) (omega arith))
+    (λ c. let s = c .before .before .before in none-1 (s .args .l) (s .args .register) (c .before .match .rest .1) (omega arith))
+    (λ c. let s = c .before .before .before .before .before in none-2 (s .args .l) (s .args .register) (c .before .before .before .match .rest .1) (omega arith) (omega arith))
+    (λ c. let s = c .before .before .before .before .before .before in none-3 (s .args .l) (s .args .register) (c .before .before .before .before .match .rest .1) (omega arith)))

@@ -6,17 +6,11 @@ use borrow.Author.Needs.{needs}
 use Rattle.answers.proofs.parts.changes_state.Statement.{statement}
 use Rattle.answers.proofs.parts.changes_state.Tie as tie
 
-returns : tie.Need-returns
-unfolding changesState
-returns c = sym (ap changesState (c .before .frame .given .1))
-
-returns-2 : tie.Need-returns-2
-unfolding changesState
-returns-2 c = sym (ap changesState (c .before .frame2 .given .1))
-
-returns-3 : tie.Need-returns-3
-unfolding changesState
-returns-3 c = neither changesState (λ n. refl) (λ r. refl) (c .before .args .frame) (c .match .keys3)
-
 pub changes-state-spec : {M : Type 1} → statement M
-changes-state-spec = tie.close (tie.spec (λ c. search needs) (λ c. search needs) returns returns-2 returns-3)
+unfolding changesState
+changes-state-spec =
+    tie.close
+    (tie.spec (λ c. search needs) (λ c. search needs)
+    (λ c. sym (ap changesState (c .before .frame .given .1)))
+    (λ c. sym (ap changesState (c .before .frame2 .given .1)))
+    (λ c. neither changesState (λ n. refl) (λ r. refl) (c .before .args .frame) (c .match .keys3)))

@@ -6,17 +6,11 @@ use borrow.Author.Needs.{needs}
 use Rattle.answers.proofs.parts.copy_by.Statement.{statement}
 use Rattle.answers.proofs.parts.copy_by.Tie as tie
 
-returns : tie.Need-returns
-unfolding copyBy
-returns c = by-case (copyBy _) (c .before .before .before .before .frame .given .1) (simp (sym (c .before .before .is-figure .ensures) ∙ c .before .if1 .taken) (c .write .ensures))
-
-returns-2 : tie.Need-returns-2
-unfolding copyBy
-returns-2 c = by-case (copyBy _) (c .before .before .before .frame .given .1) (simp (sym (c .before .is-figure .ensures) ∙ c .if1 .left))
-
-returns-3 : tie.Need-returns-3
-unfolding copyBy
-returns-3 c = no-write (copyBy (c .before .args .copy)) (λ n. refl) (λ r. refl) (λ r. refl) (c .before .args .frame) (c .match .keys2)
-
 pub copy-by-spec : {M : Type 1} → statement M
-copy-by-spec = tie.close (tie.spec (λ c. search needs) (λ c κs. search needs) (λ c κs. search needs) returns returns-2 returns-3)
+unfolding copyBy
+copy-by-spec =
+    tie.close
+    (tie.spec (λ c. search needs) (λ c κs. search needs) (λ c κs. search needs)
+    (λ c. by-case (copyBy _) (c .before .before .before .before .frame .given .1) (simp (sym (c .before .before .is-figure .ensures) ∙ c .before .if1 .taken) (c .write .ensures)))
+    (λ c. by-case (copyBy _) (c .before .before .before .frame .given .1) (simp (sym (c .before .is-figure .ensures) ∙ c .if1 .left)))
+    (λ c. no-write (copyBy (c .before .args .copy)) (λ n. refl) (λ r. refl) (λ r. refl) (c .before .args .frame) (c .match .keys2)))

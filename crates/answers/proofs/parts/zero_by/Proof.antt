@@ -9,17 +9,11 @@ use borrow.Author.Needs.{needs}
 use Rattle.answers.proofs.parts.zero_by.Statement.{statement}
 use Rattle.answers.proofs.parts.zero_by.Tie as tie
 
-returns : tie.Need-returns
-unfolding zeroBy
-returns c = by-case (zeroBy _) (c .before .before .before .frame .given .1) (simp (eq-eqb _ _ (c .before .if1 .taken)) (held (c .zero-steps .ok) (c .zero-steps .ensures)))
-
-returns-2 : tie.Need-returns-2
-unfolding zeroBy
-returns-2 c = let s = c .before .before .before .before in by-case (zeroBy (s .args .sz)) (c .before .before .frame .given .1) (simp (ne-eqb _ _ (c .if1 .left)) (toZ-ofZ w64 _ (s .fits .sz)))
-
-returns-3 : tie.Need-returns-3
-unfolding zeroBy
-returns-3 c = let e = toZ-ofZ w64 _ (c .before .fits .sz) in no-write (zeroBy (c .before .args .sz)) (λ n. e) (λ r. e) (λ r. e) (c .before .args .frame) (c .match .keys2)
-
 pub zero-by-spec : {M : Type 1} → statement M
-zero-by-spec = tie.close (tie.spec (λ c. search needs) (λ c κs. search needs) returns returns-2 returns-3)
+unfolding zeroBy
+zero-by-spec =
+    tie.close
+    (tie.spec (λ c. search needs) (λ c κs. search needs)
+    (λ c. by-case (zeroBy _) (c .before .before .before .frame .given .1) (simp (eq-eqb _ _ (c .before .if1 .taken)) (held (c .zero-steps .ok) (c .zero-steps .ensures))))
+    (λ c. let s = c .before .before .before .before in by-case (zeroBy (s .args .sz)) (c .before .before .frame .given .1) (simp (ne-eqb _ _ (c .if1 .left)) (toZ-ofZ w64 _ (s .fits .sz))))
+    (λ c. let e = toZ-ofZ w64 _ (c .before .fits .sz) in no-write (zeroBy (c .before .args .sz)) (λ n. e) (λ r. e) (λ r. e) (c .before .args .frame) (c .match .keys2)))

@@ -38,30 +38,19 @@ module _ (c : tie.Then1) where
   unfolding n
   most = let h = below in omega (ints, nonpos-parts (<-≤ h), abs-parts (c .before .args .n), fits-pos-part (c .before .fits .n), fits-neg-part (c .before .fits .n))
 
-add-result : tie.Need-add-result
-unfolding n
-add-result c = simp (toZ-ofZ, c .before .fits .n) (next-fits c)
-
-sub-result : tie.Need-sub-result
-unfolding n
-sub-result c = simp (toZ-ofZ, c .before .fits .n, next-fits c) (turned-fits c)
-
-cast-result : tie.Need-cast-result
-unfolding n
-cast-result c = simp (toZ-ofZ, c .before .fits .n, next-fits c, turned-fits c) (rw (turned c) (tt, record { fits = omega (arith, most c) }))
-
-add-result-2 : tie.Need-add-result-2
-unfolding n
-add-result-2 c = simp (toZ-ofZ, c .before .fits .n, next-fits c, turned-fits c) (rw (turned c) (record { fits = omega (arith, most c) }))
-
-returns : tie.Need-returns
-unfolding n
-returns c = simp (toZ-ofZ, c .before .fits .n, next-fits c, turned-fits c) (rw (turned c) (let h = below c in omega (ints, nonpos-parts (<-≤ h), abs-parts (c .before .args .n))))
-
 cast-result-2 : tie.Need-cast-result-2
 cast-result-2 c =
     let h : pos 0 ≤ℤ c .before .args .n = lt-no (simp (toZ-ofZ, c .before .fits .n) at (c .if1 .left)) in
     simp (toZ-ofZ, c .before .fits .n) (yes-nonNeg h, record { fits = omega (ints, abs-parts (c .before .args .n), fits-pos-part (c .before .fits .n), fits-neg-part (c .before .fits .n)) })
 
 pub magnitude-spec : {M : Type 1} → statement M
-magnitude-spec = tie.close (tie.spec add-result sub-result cast-result add-result-2 returns cast-result-2 (λ c. search needs))
+unfolding n
+magnitude-spec =
+    tie.close
+    (tie.spec
+    (λ c. simp (toZ-ofZ, c .before .fits .n) (next-fits c))
+    (λ c. simp (toZ-ofZ, c .before .fits .n, next-fits c) (turned-fits c))
+    (λ c. simp (toZ-ofZ, c .before .fits .n, next-fits c, turned-fits c) (rw (turned c) (tt, record { fits = omega (arith, most c) })))
+    (λ c. simp (toZ-ofZ, c .before .fits .n, next-fits c, turned-fits c) (rw (turned c) (record { fits = omega (arith, most c) })))
+    (λ c. simp (toZ-ofZ, c .before .fits .n, next-fits c, turned-fits c) (rw (turned c) (let h = below c in omega (ints, nonpos-parts (<-≤ h), abs-parts (c .before .args .n)))))
+    cast-result-2 (λ c. search needs))

@@ -17,22 +17,13 @@ kept d place h l = mod-eq-of-lt (lt-of-lt-of-le (shl-lt 24 (place - 125) h) (pow
     room : (place : ℕ) → place ≤ 161 → 24 + (place - 125) ≤ 64
     room place l = omega arith
 
-returns : tie.Need-returns
-unfolding units
-returns c = simp (lt-ltb _ _ (c .if1 .taken))
-
-returns-2 : tie.Need-returns-2
-unfolding units
-returns-2 c = simp (le-ltb _ _ (c .before .if1 .left), le-leb _ _ (c .if2 .taken)) (kept _ _ (omega arith) (omega arith))
-
-returns-3 : tie.Need-returns-3
-unfolding units
-returns-3 c = simp (le-ltb _ _ (c .before .before .if1 .left), lt-leb _ _ (c .before .if2 .left), eq-eqb _ _ (c .if3 .taken))
-
-returns-4 : tie.Need-returns-4
-unfolding units
-returns-4 c = simp (le-ltb _ _ (c .before .before .if1 .left), lt-leb _ _ (c .before .if2 .left), ne-eqb _ _ (c .if3 .left))
-
 pub magnitude-spec : {M : Type 1} → statement M
+unfolding units
 magnitude-spec =
-    tie.close (tie.spec (λ c. search needs) returns (λ c. search needs) (λ c. omega arith) returns-2 returns-3 returns-4)
+    tie.close
+    (tie.spec (λ c. search needs)
+    (λ c. simp (lt-ltb _ _ (c .if1 .taken))) (λ c. search needs)
+    (λ c. omega arith)
+    (λ c. simp (le-ltb _ _ (c .before .if1 .left), le-leb _ _ (c .if2 .taken)) (kept _ _ (omega arith) (omega arith)))
+    (λ c. simp (le-ltb _ _ (c .before .before .if1 .left), lt-leb _ _ (c .before .if2 .left), eq-eqb _ _ (c .if3 .taken)))
+    (λ c. simp (le-ltb _ _ (c .before .before .if1 .left), lt-leb _ _ (c .before .if2 .left), ne-eqb _ _ (c .if3 .left))))

@@ -44,27 +44,12 @@ of c = half (c .args .bits) (c .pre .0) (c .pre .1)
 rest : (c : tie.Else1) → (shifted (c .before .args .bits) - 1 - (c .before .args .word - shifted (c .before .args .bits)) ≡ 2 ^ (c .before .args .bits) - 1 - c .before .args .word) × (2 ^ (c .before .args .bits) - 1 - c .before .args .word < 2 ^ 63)
 rest c = let h = of (c .before) in (omega (arith, h .is, h .twice, h .most), omega (arith, h .is, h .twice, h .most))
 
-cast-result : tie.Need-cast-result
-cast-result c = let h = of (c .before) in record { sfits = omega (arith, h .is, h .most) }
-
 returns : tie.Need-returns
 unfolding signedOf
 returns c =
     let h = of (c .before) in
     let w : c .before .args .word < 2 ^ 63 = omega (arith, h .is, h .most) in
     rw (toZ-pos w64 w, lt-ltb _ _ (rw (h .is) at (c .if1 .taken)))
-
-sub-result : tie.Need-sub-result
-sub-result c = let h = of (c .before) in omega (arith, h .is, h .twice, h .most)
-
-sub-result-2 : tie.Need-sub-result-2
-sub-result-2 c = let h = of (c .before) in omega (arith, h .is, h .twice, h .most)
-
-cast-result-2 : tie.Need-cast-result-2
-cast-result-2 c = let r = rest c in record { sfits = rw (r .0) (r .1) }
-
-sub-result-3 : tie.Need-sub-result-3
-sub-result-3 c = let r = rest c in rw (r .0, complement _ (r .1)) (record { sfits = r .1 })
 
 returns-2 : tie.Need-returns-2
 unfolding signedOf
@@ -76,4 +61,9 @@ returns-2 c =
 pub signed-spec : {M : Type 1} → statement M
 signed-spec =
     tie.close
-    (tie.spec (λ c. search needs) (λ c. search needs) cast-result returns sub-result sub-result-2 cast-result-2 sub-result-3 returns-2)
+    (tie.spec (λ c. search needs) (λ c. search needs)
+    (λ c. let h = of (c .before) in record { sfits = omega (arith, h .is, h .most) }) returns
+    (λ c. let h = of (c .before) in omega (arith, h .is, h .twice, h .most))
+    (λ c. let h = of (c .before) in omega (arith, h .is, h .twice, h .most))
+    (λ c. let r = rest c in record { sfits = rw (r .0) (r .1) })
+    (λ c. let r = rest c in rw (r .0, complement _ (r .1)) (record { sfits = r .1 })) returns-2)

@@ -48,17 +48,10 @@ listed-at c b e =
     asked (now (w .before .before .before .before .before .args .frame)) (w .word-at2 .result) (w .before .before .before .if1 .left)
     (sym (w .before .before .word-at .ensures) ∙ w .before .if2 .left) (w .word-at2 .ensures) (c .before .if3 .taken) b (sym e ∙ c .is-listed .ensures)
 
-returns-3 : tie.Need-returns-3
-returns-3 c = listed-at (c .before) true (c .if4 .taken)
-
-returns-4 : tie.Need-returns-4
-returns-4 c = listed-at (c .before) false (c .if4 .left)
-
-returns-5 : tie.Need-returns-5
-returns-5 c = odd (now (c .before .before .before .before .before .before .args .frame)) (c .before .word-at2 .result) (c .before .before .before .before .if1 .left) (sym (c .before .before .before .word-at .ensures) ∙ c .before .before .if2 .left) (c .before .word-at2 .ensures) (c .if3 .left)
-
 pub read-asked-spec : {M : Type 1} → statement M
 read-asked-spec =
     tie.close
-    (tie.spec returns (λ c κs. search needs) returns-2 (λ c κs. search needs) (λ c κs. search needs) returns-3 returns-4
-    returns-5)
+    (tie.spec returns (λ c κs. search needs) returns-2 (λ c κs. search needs) (λ c κs. search needs)
+    (λ c. listed-at (c .before) true (c .if4 .taken))
+    (λ c. listed-at (c .before) false (c .if4 .left))
+    (λ c. odd (now (c .before .before .before .before .before .before .args .frame)) (c .before .word-at2 .result) (c .before .before .before .before .if1 .left) (sym (c .before .before .before .word-at .ensures) ∙ c .before .before .if2 .left) (c .before .word-at2 .ensures) (c .if3 .left)))

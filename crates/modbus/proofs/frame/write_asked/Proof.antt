@@ -39,18 +39,6 @@ asked-computable : (s : List ℕ) {a : Access} → a ≡ accessAsked s → Compu
 unfolding accessAsked
 asked-computable s e = rw e (pick (eqb (wordAt s 2 % 2) 0) (accessOf (registerOf s)) Unlisted (λ a. Computable (rangeIn a)) (λ h. access-computable (accessOf (registerOf s)) (registerOf s) (inl refl)) (λ h. access-computable Unlisted 0 (inr refl)))
 
-returns : tie.Need-returns
-unfolding writeAsked
-returns c = simp (ne-eqb _ _ (c .if1 .taken))
-
-returns-2 : tie.Need-returns-2
-unfolding writeAsked
-returns-2 c = simp (eq-eqb _ _ (c .before .before .if1 .left), ne-eqb _ _ (λ e. c .if2 .taken (c .before .word-at .ensures ∙ e)))
-
-returns-3 : tie.Need-returns-3
-unfolding writeAsked
-returns-3 c = simp (eq-eqb _ _ (c .before .before .before .before .if1 .left), eq-eqb _ _ (sym (c .before .before .before .word-at .ensures) ∙ c .before .before .if2 .left), ne-eqb _ _ (c .if3 .taken))
-
 -- where the address is known
 abbrev frame-at : tie.After-word-at2 → List ℕ
 frame-at w = now (w .before .before .before .before .before .before .before .before .before .before .before .before .args .frame)
@@ -61,20 +49,21 @@ good-at w =
     let v = e .before .before .before in
     good (frame-at w) (w .before .float-of-bytes .result) (v .before .if1 .left) (sym (v .word-at .ensures) ∙ e .before .before .if2 .left) (e .if3 .left) (w .before .float-of-bytes .ensures)
 
-returns-4 : tie.Need-returns-4
-returns-4 c = let w = c .before .before in c .zero-write .ensures ∙ to-zero (frame-at w) (w .before .float-of-bytes .result) (sym (w .word-at2 .ensures) ∙ c .before .if4 .taken) ∙ good-at w
-
-write-of-requires : tie.Need-write-of-requires
-write-of-requires c κs = asked-computable (frame-at (c .before .before)) (c .access-asked .ensures)
-
 returns-5 : tie.Need-returns-5
 returns-5 c =
     let w = c .before .before .before in
     c .write-of .ensures ∙ to-other (frame-at w) (c .before .access-asked .result) (w .word-at2 .result) (w .before .float-of-bytes .result) (c .before .access-asked .ensures) (w .word-at2 .ensures) ∙ good-at w
 
 pub write-asked-spec : {M : Type 1} → statement M
+unfolding writeAsked
 write-asked-spec =
     tie.close
-    (tie.spec returns (λ c κs. search needs) returns-2 (λ c. search needs) returns-3 (λ c. search needs)
-    (λ c. search needs) (λ c. search needs) (λ c. search needs) (λ c κs. search needs) (λ c κs. search needs)
-    (λ c. search needs) (λ c κs. search needs) returns-4 (λ c κs. search needs) write-of-requires returns-5)
+    (tie.spec
+    (λ c. simp (ne-eqb _ _ (c .if1 .taken))) (λ c κs. search needs)
+    (λ c. simp (eq-eqb _ _ (c .before .before .if1 .left), ne-eqb _ _ (λ e. c .if2 .taken (c .before .word-at .ensures ∙ e)))) (λ c. search needs)
+    (λ c. simp (eq-eqb _ _ (c .before .before .before .before .if1 .left), eq-eqb _ _ (sym (c .before .before .before .word-at .ensures) ∙ c .before .before .if2 .left), ne-eqb _ _ (c .if3 .taken)))
+    (λ c. search needs) (λ c. search needs) (λ c. search needs) (λ c. search needs) (λ c κs. search needs) (λ c κs. search needs) (λ c. search needs)
+    (λ c κs. search needs)
+    (λ c. let w = c .before .before in c .zero-write .ensures ∙ to-zero (frame-at w) (w .before .float-of-bytes .result) (sym (w .word-at2 .ensures) ∙ c .before .if4 .taken) ∙ good-at w)
+    (λ c κs. search needs)
+    (λ c κs. asked-computable (frame-at (c .before .before)) (c .access-asked .ensures)) returns-5)

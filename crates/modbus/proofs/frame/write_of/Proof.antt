@@ -21,31 +21,15 @@ at-access r x e = ap (λ (t : Access). writeOf t r x) e
 of-access : {a b : Access} → a ≡ b → Computable (rangeIn a) → Computable (rangeIn b)
 of-access e h = rw (sym e) h
 
-takes-requires : tie.Need-takes-requires
-takes-requires c κs = of-access (c .before .access .given .1) (c .before .before .before .pre)
-
-returns : tie.Need-returns
-unfolding writeOf
-returns c = let a = c .before .before .before .before .before .args in by-fit (a .register) (a .x) (sym (c .if1 .taken) ∙ c .before .takes .ensures) ∙ at-access (a .register) (a .x) (sym (c .before .before .before .access .given .1))
-
-returns-2 : tie.Need-returns-2
-unfolding writeOf
-returns-2 c = let a = c .before .before .args in at-access (a .register) (a .x) (sym (c .enum-told .given .1))
-
-returns-3 : tie.Need-returns-3
-unfolding writeOf
-returns-3 c = let a = c .before .before .args in at-access (a .register) (a .x) (sym (c .enum-told2 .given .1))
-
-returns-4 : tie.Need-returns-4
-unfolding writeOf
-returns-4 c = let a = c .before .before .before .before .before .args in by-fit (a .register) (a .x) (sym (c .if1 .left) ∙ c .before .takes .ensures) ∙ at-access (a .register) (a .x) (sym (c .before .before .before .access .given .1))
-
-returns-5 : tie.Need-returns-5
-unfolding writeOf
-returns-5 c = let a = c .before .before .args in at-access (a .register) (a .x) (sym (c .enum-told3 .given .1))
-
 pub write-of-spec : {M : Type 1} → statement M
+unfolding writeOf
 write-of-spec =
     tie.close
-    (tie.spec (λ c. search needs) (λ c. search needs) (λ c. search needs) takes-requires returns (λ c. search needs)
-    returns-2 returns-3 returns-4 returns-5)
+    (tie.spec (λ c. search needs) (λ c. search needs) (λ c. search needs)
+    (λ c κs. of-access (c .before .access .given .1) (c .before .before .before .pre))
+    (λ c. let a = c .before .before .before .before .before .args in by-fit (a .register) (a .x) (sym (c .if1 .taken) ∙ c .before .takes .ensures) ∙ at-access (a .register) (a .x) (sym (c .before .before .before .access .given .1)))
+    (λ c. search needs)
+    (λ c. let a = c .before .before .args in at-access (a .register) (a .x) (sym (c .enum-told .given .1)))
+    (λ c. let a = c .before .before .args in at-access (a .register) (a .x) (sym (c .enum-told2 .given .1)))
+    (λ c. let a = c .before .before .before .before .before .args in by-fit (a .register) (a .x) (sym (c .if1 .left) ∙ c .before .takes .ensures) ∙ at-access (a .register) (a .x) (sym (c .before .before .before .access .given .1)))
+    (λ c. let a = c .before .before .args in at-access (a .register) (a .x) (sym (c .enum-told3 .given .1))))

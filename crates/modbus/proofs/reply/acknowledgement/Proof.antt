@@ -33,27 +33,6 @@ returns-2 c =
     let a = c .before .before .before .before .before .args in
     whole (now (a .frame)) (now (a .reply)) (now (a .reply)) 0 (c .before .before .if1 .left) (unreplied (now (a .frame)) (now (a .reply)) (take 6 (now (a .frame))) (sym (c .before .is-silent .ensures) ∙ c .if2 .taken))
 
-cast-high : tie.Need-cast-high
-cast-high c = omega (arith, c .shared-slice-known2 .given 4)
-
-cast-high-2 : tie.Need-cast-high-2
-cast-high-2 c = omega (arith, c .shared-slice-known3 .given 5)
-
-mul-high : tie.Need-mul-high
-mul-high c = omega (arith, c .shared-slice-known3 .given 5)
-
-add-high : tie.Need-add-high
-add-high c = omega (arith, c .shared-slice-known3 .given 4, c .shared-slice-known3 .given 5)
-
-mul-put : tie.Need-mul-put
-mul-put c = omega (arith, c .before .shared-slice-known3 .given 4, c .before .shared-slice-known3 .given 5)
-
-add-put : tie.Need-add-put
-add-put c = omega (arith, c .before .shared-slice-known3 .given 4, c .before .shared-slice-known3 .given 5)
-
-put-requires : tie.Need-put-requires
-put-requires c κs = (omega arith, omega arith, omega (arith, enough _ _ (speaks (c .before .before .before .before))))
-
 returns-3 : tie.Need-returns-3
 returns-3 c =
     let e = c .before .before .before .before .before .before .before in
@@ -72,5 +51,10 @@ pub acknowledgement-spec : {M : Type 1} → statement M
 acknowledgement-spec =
     tie.close
     (tie.spec returns (λ c κs. search needs) returns-2 (λ c κs. search needs) (λ c. search needs) (λ c. search needs)
-    cast-high (λ c. search needs) cast-high-2 mul-high add-high mul-put add-put put-requires (λ c. search needs)
-    returns-3)
+    (λ c. omega (arith, c .shared-slice-known2 .given 4)) (λ c. search needs)
+    (λ c. omega (arith, c .shared-slice-known3 .given 5))
+    (λ c. omega (arith, c .shared-slice-known3 .given 5))
+    (λ c. omega (arith, c .shared-slice-known3 .given 4, c .shared-slice-known3 .given 5))
+    (λ c. omega (arith, c .before .shared-slice-known3 .given 4, c .before .shared-slice-known3 .given 5))
+    (λ c. omega (arith, c .before .shared-slice-known3 .given 4, c .before .shared-slice-known3 .given 5))
+    (λ c κs. (omega arith, omega arith, omega (arith, enough _ _ (speaks (c .before .before .before .before))))) (λ c. search needs) returns-3)

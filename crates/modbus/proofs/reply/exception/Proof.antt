@@ -46,30 +46,6 @@ module _ (s b : List ℕ) (number : ℕ) where
 speaks : (c : tie.Else1) → silent (now (c .before .before .before .before .args .frame)) (length (now (c .before .before .before .before .args .reply))) ≡ false
 speaks c = sym (c .before .is-silent .ensures) ∙ c .if1 .left
 
-returns : tie.Need-returns
-returns c = let a = c .before .before .before .before .args in quiet (now (a .frame)) (now (a .reply)) (a .number) (sym (c .before .is-silent .ensures) ∙ c .if1 .taken)
-
-shared-slice-read-function : tie.Need-shared-slice-read-function
-shared-slice-read-function c = omega (arith, framed-enough _ _ (speaks (c .before)))
-
-returns-2 : tie.Need-returns-2
-returns-2 c = let a = c .before .before .before .before .before .before .before .args in uncoded (now (a .frame)) (now (a .reply)) (a .number) (sym (c .before .exception-code .ensures) ∙ c .if2 .taken)
-
-shared-slice-read-start : tie.Need-shared-slice-read-start
-shared-slice-read-start c = omega (arith, framed-enough _ _ (speaks (c .before .before .before .before)))
-
-cast-start : tie.Need-cast-start
-cast-start c = omega (arith, c .shared-slice-known3 .given 0)
-
-add-start : tie.Need-add-start
-add-start c = omega (arith, c .before .shared-slice-known3 .given 0)
-
-add-put : tie.Need-add-put
-add-put c = omega (arith, c .before .before .shared-slice-known3 .given 0)
-
-put-requires : tie.Need-put-requires
-put-requires c κs = (omega arith, omega arith, omega (arith, enough _ _ (speaks (c .before .before .before .before .before .before))))
-
 returns-3 : tie.Need-returns-3
 returns-3 c =
     let e = c .before .before .before .before .before .before .before .before .before in
@@ -87,6 +63,13 @@ returns-3 c =
 pub exception-spec : {M : Type 1} → statement M
 exception-spec =
     tie.close
-    (tie.spec (λ c κs. search needs) returns shared-slice-read-function (λ c κs. search needs) returns-2
-    shared-slice-read-start cast-start (λ c κs. search needs) (λ c. search needs) (λ c. search needs) add-start
-    (λ c. search needs) (λ c. search needs) add-put put-requires (λ c. search needs) returns-3)
+    (tie.spec (λ c κs. search needs)
+    (λ c. let a = c .before .before .before .before .args in quiet (now (a .frame)) (now (a .reply)) (a .number) (sym (c .before .is-silent .ensures) ∙ c .if1 .taken))
+    (λ c. omega (arith, framed-enough _ _ (speaks (c .before)))) (λ c κs. search needs)
+    (λ c. let a = c .before .before .before .before .before .before .before .args in uncoded (now (a .frame)) (now (a .reply)) (a .number) (sym (c .before .exception-code .ensures) ∙ c .if2 .taken))
+    (λ c. omega (arith, framed-enough _ _ (speaks (c .before .before .before .before))))
+    (λ c. omega (arith, c .shared-slice-known3 .given 0)) (λ c κs. search needs) (λ c. search needs) (λ c. search needs)
+    (λ c. omega (arith, c .before .shared-slice-known3 .given 0)) (λ c. search needs) (λ c. search needs)
+    (λ c. omega (arith, c .before .before .shared-slice-known3 .given 0))
+    (λ c κs. (omega arith, omega arith, omega (arith, enough _ _ (speaks (c .before .before .before .before .before .before))))) (λ c. search needs)
+    returns-3)

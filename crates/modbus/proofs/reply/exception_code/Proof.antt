@@ -8,30 +8,6 @@ use Rattle.modbus.specs.Reply.{exceptionCode}
 use Rattle.modbus.proofs.reply.exception_code.Statement.{statement}
 use Rattle.modbus.proofs.reply.exception_code.Tie as tie
 
-returns : tie.Need-returns
-unfolding exceptionCode
-returns c = ap₂ exceptionCode (sym (c .before .match .keys5)) (sym (c .if1 .taken))
-
-returns-2 : tie.Need-returns-2
-unfolding exceptionCode
-returns-2 c = ap (λ (n : ℕ). exceptionCode n (c .before .args .function)) (sym (c .match .keys1))
-
-returns-3 : tie.Need-returns-3
-unfolding exceptionCode
-returns-3 c = let f = c .before .args .function in ⊎-elim (λ e. ap (λ (n : ℕ). exceptionCode n f) (sym e)) (λ e. ap (λ (n : ℕ). exceptionCode n f) (sym e)) (c .match .keys2)
-
-returns-4 : tie.Need-returns-4
-unfolding exceptionCode
-returns-4 c = ap (λ (n : ℕ). exceptionCode n (c .before .args .function)) (sym (c .match .keys3))
-
-returns-5 : tie.Need-returns-5
-unfolding exceptionCode
-returns-5 c = ap (λ (n : ℕ). exceptionCode n (c .before .args .function)) (sym (c .match .keys4))
-
-returns-6 : tie.Need-returns-6
-unfolding exceptionCode
-returns-6 c = let f = c .before .before .args .function in sym (ap (λ (t : Bool). cond t 2 3) (ne-eqb f 3 (c .if1 .left))) ∙ ap (λ (n : ℕ). exceptionCode n f) (sym (c .before .match .keys5))
-
 returns-7 : tie.Need-returns-7
 unfolding exceptionCode
 returns-7 c =
@@ -39,4 +15,14 @@ returns-7 c =
     simp (ne-eqb _ _ (r .0 .0 .0 .0 .1), ne-eqb _ _ (λ e. r .0 .0 .0 .1 (inr e)), ne-eqb _ _ (λ e. r .0 .0 .0 .1 (inl e)), ne-eqb _ _ (r .0 .0 .1), ne-eqb _ _ (r .0 .1), ne-eqb _ _ (r .1))
 
 pub exception-code-spec : {M : Type 1} → statement M
-exception-code-spec = tie.close (tie.spec returns returns-2 returns-3 returns-4 returns-5 returns-6 returns-7)
+unfolding exceptionCode
+exception-code-spec =
+    tie.close
+    (tie.spec
+    (λ c. ap₂ exceptionCode (sym (c .before .match .keys5)) (sym (c .if1 .taken)))
+    (λ c. ap (λ (n : ℕ). exceptionCode n (c .before .args .function)) (sym (c .match .keys1)))
+    (λ c. let f = c .before .args .function in ⊎-elim (λ e. ap (λ (n : ℕ). exceptionCode n f) (sym e)) (λ e. ap (λ (n : ℕ). exceptionCode n f) (sym e)) (c .match .keys2))
+    (λ c. ap (λ (n : ℕ). exceptionCode n (c .before .args .function)) (sym (c .match .keys3)))
+    (λ c. ap (λ (n : ℕ). exceptionCode n (c .before .args .function)) (sym (c .match .keys4)))
+    (λ c. let f = c .before .before .args .function in sym (ap (λ (t : Bool). cond t 2 3) (ne-eqb f 3 (c .if1 .left))) ∙ ap (λ (n : ℕ). exceptionCode n f) (sym (c .before .match .keys5)))
+    returns-7)

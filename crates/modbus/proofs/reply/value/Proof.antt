@@ -25,24 +25,6 @@ sent-bytes x h = (omega arith, (omega arith, (omega (arith, toBits-lt binary32 x
 speaks : (c : tie.Else1) → silent (now (c .before .before .before .before .args .frame)) (length (now (c .before .before .before .before .args .reply))) ≡ false
 speaks c = sym (c .before .is-silent .ensures) ∙ c .if1 .left
 
-returns : tie.Need-returns
-returns c = let a = c .before .before .before .before .args in unreplied (now (a .frame)) (now (a .reply)) (stationOf (now (a .frame)) ∷ 3 ∷ 4 ∷ sent (a .x)) (sym (c .before .is-silent .ensures) ∙ c .if1 .taken)
-
-shared-slice-read-put : tie.Need-shared-slice-read-put
-shared-slice-read-put c = omega (arith, framed-enough _ _ (speaks (c .before .before .before)))
-
-cast-put : tie.Need-cast-put
-cast-put c = omega (arith, c .shared-slice-known2 .given 0)
-
-add-put : tie.Need-add-put
-add-put c = omega (arith, c .shared-slice-known2 .given 0)
-
-add-put-2 : tie.Need-add-put-2
-add-put-2 c = omega (arith, c .shared-slice-known2 .given 0)
-
-put-requires : tie.Need-put-requires
-put-requires c κs = (omega arith, omega arith, omega (arith, enough _ _ (speaks (c .before .before .before))))
-
 returns-2 : tie.Need-returns-2
 unfolding wireBytes
 returns-2 c =
@@ -59,5 +41,11 @@ returns-2 c =
 pub value-spec : {M : Type 1} → statement M
 value-spec =
     tie.close
-    (tie.spec (λ c κs. search needs) returns (λ c κs. search needs) (λ c. search needs) shared-slice-read-put cast-put
-    add-put (λ c. search needs) add-put-2 put-requires (λ c. search needs) returns-2)
+    (tie.spec (λ c κs. search needs)
+    (λ c. let a = c .before .before .before .before .args in unreplied (now (a .frame)) (now (a .reply)) (stationOf (now (a .frame)) ∷ 3 ∷ 4 ∷ sent (a .x)) (sym (c .before .is-silent .ensures) ∙ c .if1 .taken))
+    (λ c κs. search needs) (λ c. search needs)
+    (λ c. omega (arith, framed-enough _ _ (speaks (c .before .before .before))))
+    (λ c. omega (arith, c .shared-slice-known2 .given 0))
+    (λ c. omega (arith, c .shared-slice-known2 .given 0)) (λ c. search needs)
+    (λ c. omega (arith, c .shared-slice-known2 .given 0))
+    (λ c κs. (omega arith, omega arith, omega (arith, enough _ _ (speaks (c .before .before .before))))) (λ c. search needs) returns-2)

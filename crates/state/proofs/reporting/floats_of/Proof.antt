@@ -12,15 +12,6 @@ built : (r : Readings) {s p t k : Float} → s ≡ stepFloat (r .values .sys) �
     → record { sys = s; peak = p; trof = t; cell = k } ≡ floatsOf r
 built r s p t k = rw (s, p, t, k)
 
-float-of-steps-requires-2 : tie.Need-float-of-steps-requires-2
-float-of-steps-requires-2 c κs = kept-within (c .before .before .before .before .pre .peak-in)
-
-float-of-steps-requires-3 : tie.Need-float-of-steps-requires-3
-float-of-steps-requires-3 c κs = kept-within (c .before .before .before .before .before .before .pre .trof-in)
-
-float-of-steps-requires-4 : tie.Need-float-of-steps-requires-4
-float-of-steps-requires-4 c κs = kept-within (c .before .before .before .before .before .before .before .before .pre .cell-in)
-
 returns : tie.Need-returns
 returns c =
     let t = c .before .before in
@@ -33,5 +24,8 @@ returns c =
 pub floats-of-spec : {M : Type 1} → statement M
 floats-of-spec =
     tie.close
-    (tie.spec (λ c κs. kept-within (c .before .before .pre .sys-in)) float-of-steps-requires-2 float-of-steps-requires-3
-    float-of-steps-requires-4 returns)
+    (tie.spec
+    (λ c κs. kept-within (c .before .before .pre .sys-in))
+    (λ c κs. kept-within (c .before .before .before .before .pre .peak-in))
+    (λ c κs. kept-within (c .before .before .before .before .before .before .pre .trof-in))
+    (λ c κs. kept-within (c .before .before .before .before .before .before .before .before .pre .cell-in)) returns)
