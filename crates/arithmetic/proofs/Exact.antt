@@ -16,7 +16,8 @@ use Rattle.integers.proofs.Magnitude.{abs-mul, abs-sum2, abs-between}
 use Rattle.integers.proofs.Ring.{ring, polynomials}
 use Rattle.arithmetic.specs.Round.{roundDiv}
 use Rattle.arithmetic.specs.Fraction.{Fraction, _over_, whole, Near}
-use Rattle.arithmetic.specs.Table.{Point, column, place, between, betweenF, interpolated, interpolatedF, Rising, ColumnWithin}
+use Rattle.arithmetic.specs.Table.{Point, column, place, between, betweenF, interpolated, interpolatedF}
+use Rattle.arithmetic.specs.Keeps.{ColumnWithin, Rising}
 use Rattle.arithmetic.proofs.Round.{round-near}
 use Rattle.arithmetic.proofs.Near.{one-pos, near-whole, near-pick}
 

@@ -13,7 +13,8 @@ use Rattle.integers.specs.Within.{_within_}
 use Rattle.integers.proofs.Order.{gap-pos, <-≤}
 use Rattle.integers.proofs.Magnitude.{abs-add, abs-neg, abs-mul, abs-between}
 use Rattle.arithmetic.specs.Round.{roundDiv}
-use Rattle.arithmetic.specs.Table.{Point, column, place, between, interpolated, Each}
+use Rattle.arithmetic.specs.Table.{Point, column, place, between, interpolated}
+use Rattle.arithmetic.specs.Keeps.{Each}
 use Rattle.arithmetic.specs.ForCode.{Segment}
 use Rattle.arithmetic.proofs.Round.{round-within}
 

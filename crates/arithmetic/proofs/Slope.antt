@@ -13,7 +13,8 @@ use Rattle.integers.proofs.Order.{pick, le-yes, le-no, yes-le, ≤-or->, ≤-tr
 use Rattle.integers.proofs.Magnitude.{abs-mul, abs-sum2, abs-swap, abs-between}
 use Rattle.integers.proofs.Ring.{ring, polynomials}
 use Rattle.arithmetic.specs.Fraction.{Fraction, _over_, whole}
-use Rattle.arithmetic.specs.Table.{Point, column, place, betweenF, interpolatedF, Rising, Gentle}
+use Rattle.arithmetic.specs.Table.{Point, column, place, betweenF, interpolatedF}
+use Rattle.arithmetic.specs.Keeps.{Gentle, Rising}
 use Rattle.arithmetic.proofs.Exact.{abs-gap-scaled}
 
 -- from the value s at a ÷ m to the value t at b ÷ m: 4·|t − s| ≤ |b − a| ÷ m, multiplied out

@@ -14,7 +14,8 @@ use Rattle.integers.proofs.Difference.{⟨_⟩, _⊕_, _⊝_, _⊗_, le!, le?, 
 use Rattle.integers.proofs.Order.{pick, le-yes, le-no, yes-le, no-le, product, gap-pos, <-≤}
 use Rattle.integers.proofs.Magnitude.{within-of, within-most, within-least, within-more}
 use Rattle.arithmetic.specs.Round.{roundDiv}
-use Rattle.arithmetic.specs.Table.{Point, column, place, between, interpolated, Each, Rising, ColumnWithin}
+use Rattle.arithmetic.specs.Table.{Point, column, place, between, interpolated}
+use Rattle.arithmetic.specs.Keeps.{ColumnWithin, Rising, Each}
 use Rattle.arithmetic.proofs.Round.{round-at-least, round-at-most, round-whole}
 
 -- ---- at a point

@@ -5,7 +5,8 @@ use Prim.Native.Nat.{ℕ, _^_}
 use lib.IntN.{ℤ}
 use lib.Signed.{_≤ℤ_, _<ℤ_}
 use Rattle.integers.specs.Within.{_within_}
-use Rattle.arithmetic.specs.Table.{Point, ColumnWithin}
+use Rattle.arithmetic.specs.Table.{Point}
+use Rattle.arithmetic.specs.Keeps.{ColumnWithin}
 
 -- column j of a table
 pub record Computable (j : ℕ) (table : List Point) : Type 0 where

@@ -2,11 +2,10 @@
 -- points: v1 + round((v2 − v1) × (t − t1) ÷ (t2 − t1)). Outside the points the end value is kept."
 use mathlib.Core.Bool.{cond}
 use mathlib.Core.List.{List, [], _∷_}
-use Prim.Native.Nat.{ℕ, _*_, _≤_}
-use lib.IntN.{ℤ, pos, natAbs, _+ℤ_, _-ℤ_, _*ℤ_}
+use Prim.Native.Nat.{ℕ}
+use lib.IntN.{ℤ, pos, _+ℤ_, _-ℤ_, _*ℤ_}
 use lib.ListN.{getD}
-use lib.Signed.{leZ, _<ℤ_}
-use Rattle.integers.specs.Within.{_within_}
+use lib.Signed.{leZ}
 use Rattle.arithmetic.specs.Round.{roundDiv}
 use Rattle.arithmetic.specs.Fraction.{Fraction, whole, _≤?_, _+F_, _-F_, _*F_, _/F_}
 
@@ -51,28 +50,3 @@ interpolatedF j (p ∷ (q ∷ rest)) t =
     cond (t ≤? place p) (whole (column j p))
     (cond (t ≤? place q) (betweenF j p q t)
     (interpolatedF j (q ∷ rest) t))
-
--- ---- what a table may keep
-
--- P holds of each point
-abbrev pub Each : (Point → Type 0) → List Point → Type 0
-Each P [] = Unit
-Each P (p ∷ rest) = P p × Each P rest
-
--- R holds between neighbours
-abbrev pub Neighbours : (Point → Point → Type 0) → List Point → Type 0
-Neighbours R [] = Unit
-Neighbours R (p ∷ []) = Unit
-Neighbours R (p ∷ (q ∷ rest)) = R p q × Neighbours R (q ∷ rest)
-
--- the places rise strictly
-abbrev pub Rising : List Point → Type 0
-Rising = Neighbours (λ p q. place p <ℤ place q)
-
--- 4 × the change of column j is at most the change of the place, signs ignored
-abbrev pub Gentle : ℕ → List Point → Type 0
-Gentle j = Neighbours (λ p q. 4 * natAbs (column j q -ℤ column j p) ≤ natAbs (place q -ℤ place p))
-
--- column j is within ±n
-abbrev pub ColumnWithin : ℕ → ℕ → List Point → Type 0
-ColumnWithin j n = Each (λ p. column j p within n)

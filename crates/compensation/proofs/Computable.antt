@@ -4,7 +4,8 @@ use native.Mathlib.Omega.{arith}
 use Rattle.arithmetic.specs.ForCode.{Computable}
 use Rattle.arithmetic.proofs.Table.{column-within-more}
 use Rattle.figures.specs.Limits.{ctMost, ctoMost, ctgMost, clxMost, clkMost}
-use Rattle.figures.specs.Acceptable.{temperatures, linearities, TemperatureAcceptable, LinearityAcceptable}
+use Rattle.figures.specs.Acceptable.{TemperatureAcceptable, LinearityAcceptable}
+use Rattle.figures.specs.Rows.{linearities, temperatures}
 use Rattle.figures.specs.declared.Temperature.{Temperature}
 use Rattle.figures.specs.declared.Linearity.{Linearity}
 

@@ -12,7 +12,8 @@ use Rattle.integers.proofs.Magnitude.{abs-add, abs-mul, abs-pos, abs-sum2, abs-
 use Rattle.integers.proofs.Ring.{ring, polynomials}
 use Rattle.arithmetic.specs.Round.{roundDiv}
 use Rattle.arithmetic.specs.Fraction.{Fraction, _over_, whole, _+F_, _*F_, _/F_, Near}
-use Rattle.arithmetic.specs.Table.{Point, interpolated, interpolatedF, Rising, Gentle}
+use Rattle.arithmetic.specs.Table.{Point, interpolated, interpolatedF}
+use Rattle.arithmetic.specs.Keeps.{Gentle, Rising}
 use Rattle.arithmetic.proofs.Round.{round-near}
 use Rattle.arithmetic.proofs.Near.{one-pos}
 use Rattle.arithmetic.proofs.Exact.{exact-above, interpolated-near}

@@ -12,16 +12,19 @@ use Rattle.integers.specs.Within.{_within_}
 use Rattle.integers.proofs.Order.{<-≤}
 use Rattle.integers.proofs.Ring.{one-*ℤ}
 use Rattle.arithmetic.specs.Fraction.{Fraction, _over_, whole, Near}
-use Rattle.arithmetic.specs.Table.{Point, interpolated, interpolatedF, Rising}
+use Rattle.arithmetic.specs.Table.{Point, interpolated, interpolatedF}
+use Rattle.arithmetic.specs.Keeps.{Rising}
 use Rattle.arithmetic.proofs.Near.{one-pos, near-whole, near-sub, near-units}
 use Rattle.arithmetic.proofs.Exact.{Small, exact-small, interpolated-near}
-use Rattle.figures.specs.Acceptable.{Acceptable, temperatures, linearities}
+use Rattle.figures.specs.Acceptable.{Acceptable}
+use Rattle.figures.specs.Rows.{linearities, temperatures}
 use Rattle.figures.specs.declared.Calibration.{Calibration}
 use Rattle.compensation.specs.ReadingLimits.{elecMost}
 use Rattle.compensation.specs.Reading.{one, scaled, o, g, y, rawCell, craw, cell, rawSystem, sraw, sys}
 use Rattle.compensation.specs.Values.{valuesOf}
 use Rattle.compensation.specs.Exact.{oF, gF, yF, rawCellF, crawF, cellF, rawSystemF, srawF, sysF}
-use Rattle.compensation.specs.Faithful.{Within, AlwaysFaithful}
+use Rattle.compensation.specs.Faithful.{Within}
+use Rattle.compensation.specs.Distances.{AlwaysFaithful}
 use Rattle.compensation.proofs.Distance.{near-gain, near-adjust, near-correct}
 use Rattle.compensation.proofs.Held.{near-hold, same-side}
 use Rattle.compensation.proofs.Magnitudes.{one-above, magnitudes}

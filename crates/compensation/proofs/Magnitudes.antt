@@ -12,7 +12,8 @@ use Rattle.integers.proofs.Magnitude.{within-add, within-neg, within-mul, withi
 use Rattle.arithmetic.specs.Table.{interpolated}
 use Rattle.arithmetic.proofs.Round.{round-within}
 use Rattle.arithmetic.proofs.Table.{interpolated-within}
-use Rattle.figures.specs.Acceptable.{Acceptable, temperatures, linearities}
+use Rattle.figures.specs.Acceptable.{Acceptable}
+use Rattle.figures.specs.Rows.{linearities, temperatures}
 use Rattle.figures.specs.declared.Calibration.{Calibration}
 use Rattle.figures.specs.declared.Cell.{Cell}
 use Rattle.figures.specs.declared.Linearity.{Linearity}

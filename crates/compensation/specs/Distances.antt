@@ -10,6 +10,7 @@ use Rattle.figures.specs.Acceptable.{Acceptable}
 use Rattle.figures.specs.declared.Calibration.{Calibration}
 use Rattle.compensation.specs.ReadingLimits.{elecMost}
 use Rattle.compensation.specs.Exact.{rawCellF, crawF, cellF, rawSystemF, srawF, sysF}
+use Rattle.compensation.specs.Faithful.{Faithful}
 use Rattle.compensation.specs.Stat.{Raised, crawur, crawor, sysur, sysor}
 use Rattle.compensation.specs.Values.{valuesOf}
 use Rattle.compensation.specs.declared.steps.Values.{Values}
@@ -41,6 +42,10 @@ pub record Distances (c : Calibration) (elec temp : ℤ) (v : Values) : Type 0 w
   pub crawor-judges : Judges crawor (v .stat) (FarAbove 42 (c .cell .cmax) (rawCellF c elec temp)) (FarBelow 42 (c .cell .cmax) (rawCellF c elec temp))
   pub sysur-judges : Judges sysur (v .stat) (FarBelow 416 (c .system .smin) (rawSystemF c elec temp)) (FarAbove 416 (c .system .smin) (rawSystemF c elec temp))
   pub sysor-judges : Judges sysor (v .stat) (FarAbove 416 (c .system .smax) (rawSystemF c elec temp)) (FarBelow 416 (c .system .smax) (rawSystemF c elec temp))
+
+-- for all acceptable figures, every ELEC that the filter can hold, and every TEMP
+abbrev pub AlwaysFaithful : Type 0
+AlwaysFaithful = (c : Calibration) (elec temp : ℤ) (integrity : ℕ) → Acceptable c → elec within elecMost → Faithful c elec temp integrity (valuesOf c elec temp integrity)
 
 abbrev pub AlwaysBetween : Type 0
 AlwaysBetween = (c : Calibration) (elec temp : ℤ) (integrity : ℕ) → Acceptable c → elec within elecMost → Distances c elec temp (valuesOf c elec temp integrity)

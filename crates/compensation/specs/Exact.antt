@@ -2,7 +2,7 @@
 use lib.IntN.{ℤ}
 use Rattle.arithmetic.specs.Fraction.{Fraction, whole, _+F_, _-F_, _*F_, _/F_}
 use Rattle.arithmetic.specs.Table.{interpolatedF}
-use Rattle.figures.specs.Acceptable.{temperatures, linearities}
+use Rattle.figures.specs.Rows.{linearities, temperatures}
 use Rattle.figures.specs.declared.Calibration.{Calibration}
 use Rattle.compensation.specs.Hold.{holdF}
 use Rattle.compensation.specs.Reading.{one}

@@ -5,14 +5,10 @@ use Prim.Native.Nat.{ℕ, _*_, _<_}
 use lib.IntN.{ℤ, pos, natAbs, _-ℤ_, _*ℤ_}
 use lib.Signed.{_<ℤ_}
 use mathlib.Core.Path.{_≡_}
-use Rattle.integers.specs.Within.{_within_}
 use Rattle.arithmetic.specs.Fraction.{Near, Fraction}
-use Rattle.figures.specs.Acceptable.{Acceptable}
 use Rattle.figures.specs.declared.Calibration.{Calibration}
-use Rattle.compensation.specs.ReadingLimits.{elecMost}
 use Rattle.compensation.specs.Exact.{rawCellF, crawF, cellF, rawSystemF, srawF, sysF}
 use Rattle.compensation.specs.Stat.{Raised, tempUnder, tempOver, elecUnder, elecOver, tempur, tempor, ecomur, ecomor, crawur, crawor, sysur, sysor, lcinteg}
-use Rattle.compensation.specs.Values.{valuesOf}
 use Rattle.compensation.specs.declared.steps.Values.{Values}
 
 -- x lies within k steps of q
@@ -50,7 +46,3 @@ pub record Faithful (c : Calibration) (elec temp : ℤ) (integrity : ℕ) (v : V
   pub ecomur-right : Raised ecomur (v .stat) ↔ elec <ℤ elecUnder
   pub ecomor-right : Raised ecomor (v .stat) ↔ elecOver <ℤ elec
   pub lcinteg-right : Raised lcinteg (v .stat) ↔ (integrity ≡ 1)
-
--- for all acceptable figures, every ELEC that the filter can hold, and every TEMP
-abbrev pub AlwaysFaithful : Type 0
-AlwaysFaithful = (c : Calibration) (elec temp : ℤ) (integrity : ℕ) → Acceptable c → elec within elecMost → Faithful c elec temp integrity (valuesOf c elec temp integrity)

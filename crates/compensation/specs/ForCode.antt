@@ -10,7 +10,8 @@ use lib.Signed.{_≤ℤ_}
 use Rattle.integers.specs.Within.{_within_}
 use Rattle.arithmetic.specs.Table.{interpolated}
 use Rattle.figures.specs.Limits.{ctoMost, ctgMost, cellMost, systemMost}
-use Rattle.figures.specs.Acceptable.{temperatures, linearities, CellAcceptable, LinearityAcceptable, SystemAcceptable, FilterAcceptable}
+use Rattle.figures.specs.Acceptable.{CellAcceptable, LinearityAcceptable, SystemAcceptable, FilterAcceptable}
+use Rattle.figures.specs.Rows.{linearities, temperatures}
 use Rattle.figures.specs.declared.Cell.{Cell}
 use Rattle.figures.specs.declared.Filter.{Filter}
 use Rattle.figures.specs.declared.Linearity.{Linearity}

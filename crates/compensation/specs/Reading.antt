@@ -3,7 +3,7 @@ use lib.IntN.{ℤ, pos, _+ℤ_, _-ℤ_, _*ℤ_}
 use Rattle.arithmetic.specs.Round.{roundDiv}
 use Rattle.arithmetic.specs.Table.{interpolated}
 use Rattle.figures.specs.Limits.{unit}
-use Rattle.figures.specs.Acceptable.{temperatures, linearities}
+use Rattle.figures.specs.Rows.{linearities, temperatures}
 use Rattle.figures.specs.declared.Calibration.{Calibration}
 use Rattle.compensation.specs.Hold.{hold}
 

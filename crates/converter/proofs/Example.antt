@@ -8,7 +8,7 @@ use lib.Ieee.{ofBits}
 use Rattle.arithmetic.specs.Round.{roundDiv, floorDiv}
 use Rattle.arithmetic.specs.Table.{between, interpolated}
 use Rattle.figures.specs.Default.{defaultSheet}
-use Rattle.figures.specs.Acceptable.{temperatures, linearities}
+use Rattle.figures.specs.Rows.{linearities, temperatures}
 use Rattle.sheet.specs.Write.{sheetBytes}
 use Rattle.sheet.proofs.Edges.{default-read}
 use Rattle.compensation.specs.Hold.{hold}

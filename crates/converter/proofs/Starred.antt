@@ -5,7 +5,7 @@ use Rattle.integers.specs.Bytes.{signedOf}
 use Rattle.arithmetic.specs.Round.{roundDiv, floorDiv}
 use Rattle.arithmetic.specs.Table.{between, interpolated}
 use Rattle.figures.specs.Default.{defaultSheet}
-use Rattle.figures.specs.Acceptable.{temperatures, linearities}
+use Rattle.figures.specs.Rows.{linearities, temperatures}
 use Rattle.sheet.specs.Bytes.{figureAt, figureBytes}
 use Rattle.sheet.specs.Judge.{shortOf, wrongCount, beyond, notBelow, tooSteep, trailing, cellNumber, temperaturePointNumber, temperatureNumber, linearityPointNumber, linearityNumber, systemNumber, filterNumber, sectionsNumber}
 use Rattle.sheet.specs.Read.{cellAt, temperaturePointAt, linearityPointAt, temperatureAt, linearityAt, systemAt, filterAt, figuresOf, sheetNumber}

@@ -2,7 +2,8 @@
 use mathlib.Core.Path.{refl}
 use native.Mathlib.Omega.{arith}
 use Rattle.figures.specs.Default.{defaultSheet}
-use Rattle.figures.specs.Acceptable.{Acceptable, temperatures, linearities}
+use Rattle.figures.specs.Acceptable.{Acceptable}
+use Rattle.figures.specs.Rows.{linearities, temperatures}
 use Rattle.figures.specs.Representable.{Representable}
 
 pub default-representable : Representable defaultSheet

@@ -1,35 +1,18 @@
 -- What a set of figures must keep (01, "The calibration sheet"): the statement that a plant engineer reads. A sheet is
 -- accepted exactly if it is the bytes of figures that keep all of this.
-use mathlib.Core.List.{List, [], _∷_, map}
 use Prim.Native.Nat.{_≤_}
 use lib.IntN.{pos}
-use lib.ListN.{take}
 use lib.Signed.{_≤ℤ_, _<ℤ_}
 use Rattle.integers.specs.Within.{_within_}
-use Rattle.arithmetic.specs.Table.{Point, Rising, Gentle, ColumnWithin}
+use Rattle.arithmetic.specs.Keeps.{Rising, Gentle, ColumnWithin}
+use Rattle.figures.specs.Rows.{temperatures, linearities}
 use Rattle.figures.specs.Limits.{cofsMost, cgaiMost, cellMost, ctMost, ctoMost, ctgMost, clxMost, clkMost, sofsMost, sgaiMost, systemMost, szMost, fflvMost, ffstMost}
 use Rattle.figures.specs.declared.Cell.{Cell}
-use Rattle.figures.specs.declared.TemperaturePoint.{TemperaturePoint}
 use Rattle.figures.specs.declared.Temperature.{Temperature}
-use Rattle.figures.specs.declared.LinearityPoint.{LinearityPoint}
 use Rattle.figures.specs.declared.Linearity.{Linearity}
 use Rattle.figures.specs.declared.System.{System}
 use Rattle.figures.specs.declared.Filter.{Filter}
 use Rattle.figures.specs.declared.Calibration.{Calibration}
-
--- ---- the points that are figures, as tables: CT with CTO and CTG beside it, CLX with CLK
-
-abbrev pub temperatureRow : TemperaturePoint → Point
-temperatureRow p = p .ct ∷ p .cto ∷ p .ctg ∷ []
-
-abbrev pub linearityRow : LinearityPoint → Point
-linearityRow p = p .clx ∷ p .clk ∷ []
-
-unfoldable pub temperatures : Temperature → List Point
-temperatures t = take (t .ctn) (map temperatureRow (t .points))
-
-unfoldable pub linearities : Linearity → List Point
-linearities l = take (l .cln) (map linearityRow (l .points))
 
 -- ---- section by section
 

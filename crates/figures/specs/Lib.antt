@@ -1,5 +1,6 @@
 pub mod Limits
+pub mod Rows
 pub mod Acceptable
+pub mod Unused
 pub mod Default
 pub mod Representable
-pub mod Unused

@@ -11,8 +11,10 @@ use lib.ListN.{length, getD, take}
 use Rattle.integers.specs.Within.{_within_}
 use Rattle.integers.proofs.Magnitude.{within-between}
 use Rattle.integers.proofs.Order.{pick}
-use Rattle.arithmetic.specs.Table.{Point, column, ColumnWithin}
-use Rattle.figures.specs.Acceptable.{temperatureRow, linearityRow, temperatures, linearities, CellAcceptable, TemperatureAcceptable, LinearityAcceptable, SystemAcceptable, FilterAcceptable, Acceptable}
+use Rattle.arithmetic.specs.Table.{Point, column}
+use Rattle.arithmetic.specs.Keeps.{ColumnWithin}
+use Rattle.figures.specs.Acceptable.{CellAcceptable, TemperatureAcceptable, LinearityAcceptable, SystemAcceptable, FilterAcceptable, Acceptable}
+use Rattle.figures.specs.Rows.{linearities, temperatures, linearityRow, temperatureRow}
 use Rattle.figures.specs.Unused.{noLinearity, noTemperature, used, unusedZero}
 use Rattle.figures.specs.Limits.{clxMost, clkMost, ctMost, ctgMost, ctoMost}
 use Rattle.figures.specs.Representable.{Representable}

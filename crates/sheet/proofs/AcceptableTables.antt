@@ -8,7 +8,8 @@ use lib.ListN.{length, getD}
 use lib.Signed.{_<ℤ_}
 use Rattle.integers.specs.Within.{_within_}
 use Rattle.figures.specs.Limits.{ctMost, ctoMost, ctgMost, clxMost, clkMost}
-use Rattle.figures.specs.Acceptable.{TemperatureAcceptable, LinearityAcceptable, temperatureRow, linearityRow, temperatures, linearities}
+use Rattle.figures.specs.Acceptable.{TemperatureAcceptable, LinearityAcceptable}
+use Rattle.figures.specs.Rows.{linearities, temperatures, linearityRow, temperatureRow}
 use Rattle.figures.specs.Unused.{noLinearity, noTemperature}
 use Rattle.figures.specs.declared.TemperaturePoint.{TemperaturePoint}
 use Rattle.figures.specs.declared.Temperature.{Temperature}

@@ -13,7 +13,8 @@ use Rattle.integers.proofs.Difference.{⟨_⟩, nat, minus, le! }
 use Rattle.integers.proofs.Order.{≤-trans}
 use Rattle.integers.proofs.Magnitude.{within-of}
 use Rattle.integers.proofs.Machine.{fits! }
-use Rattle.figures.specs.Acceptable.{Acceptable, temperatureRow, linearityRow, temperatures, linearities}
+use Rattle.figures.specs.Acceptable.{Acceptable}
+use Rattle.figures.specs.Rows.{linearities, temperatures, linearityRow, temperatureRow}
 use Rattle.figures.specs.Unused.{noLinearity, noTemperature}
 use Rattle.figures.specs.Representable.{Representable, Fitting}
 use Rattle.figures.specs.declared.Calibration.{Calibration}

@@ -7,7 +7,8 @@ use native.Mathlib.Omega.{arith}
 use native.Mathlib.Nat.{eq-or-lt-of-le}
 use lib.ListN.{length, getD, take}
 use lib.Seq.{length-take-le, getD-take}
-use Rattle.arithmetic.specs.Table.{Point, Each, Neighbours}
+use Rattle.arithmetic.specs.Table.{Point}
+use Rattle.arithmetic.specs.Keeps.{Neighbours, Each}
 use Rattle.sheet.specs.Judge.{pointsNumber}
 use Rattle.sheet.proofs.Chain.{then-none, both}
 

@@ -6,7 +6,7 @@ use Rattle.integers.specs.Within.{_within_}
 use Rattle.integers.proofs.Machine.{plain, fits, i64s}
 use Rattle.arithmetic.specs.Table.{interpolated}
 use Rattle.arithmetic.proofs.Table.{interpolated-within}
-use Rattle.figures.specs.Acceptable.{linearities}
+use Rattle.figures.specs.Rows.{linearities}
 use borrow.Author.Needs.{needs}
 use Rattle.compensation.proofs.steps.corrected.Statement.{statement}
 use Rattle.compensation.proofs.steps.corrected.Tie as tie

@@ -1,6 +1,6 @@
 -- `adjustments` meets its contract: an acceptable table has two points at least and is computable. Assumes nothing.
 use mir.ValLaws.{toZ-ofZ}
-use Rattle.figures.specs.Acceptable.{temperatures}
+use Rattle.figures.specs.Rows.{temperatures}
 use Rattle.compensation.proofs.Computable.{cto-computable, ctg-computable}
 use borrow.Author.Needs.{needs}
 use Rattle.compensation.proofs.tables.adjustments.Statement.{statement}

@@ -2,7 +2,7 @@
 use mathlib.Core.Path.{_∙_}
 use mir.Syntax.{w64}
 use mir.ValLaws.{toZ-ofZ}
-use Rattle.figures.specs.Acceptable.{linearities}
+use Rattle.figures.specs.Rows.{linearities}
 use Rattle.compensation.proofs.Computable.{clk-computable}
 use borrow.Author.Needs.{needs}
 use Rattle.compensation.proofs.tables.correction.Statement.{statement}

@@ -1,7 +1,7 @@
 -- `linearity_rows` meets its contract: seven points, each as a row. Assumes nothing.
 use mathlib.Core.Path.{_≡_}
 use lib.ListN.{length}
-use Rattle.figures.specs.Acceptable.{linearityRow}
+use Rattle.figures.specs.Rows.{linearityRow}
 use Rattle.figures.specs.Unused.{noLinearity}
 use Rattle.compensation.proofs.Spell.{spelled}
 use borrow.Author.Needs.{needs}

@@ -1,7 +1,7 @@
 -- `temperature_rows` meets its contract: five points, each as a row. Assumes nothing.
 use mathlib.Core.Path.{_≡_}
 use lib.ListN.{length}
-use Rattle.figures.specs.Acceptable.{temperatureRow}
+use Rattle.figures.specs.Rows.{temperatureRow}
 use Rattle.figures.specs.Unused.{noTemperature}
 use Rattle.compensation.proofs.Spell.{spelled}
 use borrow.Author.Needs.{needs}
