@@ -276,11 +276,11 @@ pub fn sections_number(room: usize, cell: u8, system: u8, filter: u8, figures: C
     let cln = figures.linearity.cln;
     let linearity_at = places::linearity_start(ctn);
     let system_at = places::system_start(ctn, cln);
-    let filter_at = places::filter_start(ctn, cln);
     let in_cell = cell_number(room, 0, cell, figures.cell);
     let in_temperature = temperature_number(room, places::TEMPERATURE_START, figures.temperature);
     let in_linearity = linearity_number(room, linearity_at, figures.linearity);
     let in_system = system_number(room, system_at, system, figures.system);
+    let filter_at = places::filter_start(ctn, cln);
     let in_filter = filter_number(room, filter_at, filter, figures.filter);
     first(
         in_cell,

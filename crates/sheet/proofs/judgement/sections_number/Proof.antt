@@ -8,13 +8,14 @@ use Rattle.sheet.proofs.judgement.sections_number.Tie as tie
 returns : tie.Need-returns
 unfolding sectionsNumber
 returns c =
-    let numbers = c .before .before .before .before in
-    let places = numbers .before .before .before .before .before in
-    let filter = rw (places .filter-start .ensures .0) at (numbers .filter-number .ensures) in
-    let system = rw (places .before .system-start .ensures .0) at (numbers .before .system-number .ensures) in
-    let linearity = rw (places .before .before .linearity-start .ensures .0) at (numbers .before .before .linearity-number .ensures) in
-    c .first4 .ensures ∙ ap₂ _then_ (numbers .before .before .before .before .cell-number .ensures)
-    (c .before .first3 .ensures ∙ ap₂ _then_ (numbers .before .before .before .temperature-number .ensures)
+    let f = c .before .before .before .before .before in
+    let numbers = f .before in
+    let places = numbers .before .before .before .before in
+    let filter = rw (f .filter-start .ensures .0) at (c .before .before .before .before .filter-number .ensures) in
+    let system = rw (places .system-start .ensures .0) at (numbers .system-number .ensures) in
+    let linearity = rw (places .before .linearity-start .ensures .0) at (numbers .before .linearity-number .ensures) in
+    c .first4 .ensures ∙ ap₂ _then_ (numbers .before .before .before .cell-number .ensures)
+    (c .before .first3 .ensures ∙ ap₂ _then_ (numbers .before .before .temperature-number .ensures)
     (c .before .before .first2 .ensures ∙ ap₂ _then_ linearity
     (c .before .before .before .first .ensures ∙ ap₂ _then_ system filter)))
 
