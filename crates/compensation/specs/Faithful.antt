@@ -2,13 +2,13 @@
 -- the theorem `faithful` (proofs/Faithful.antt).
 use mathlib.Core.Logic.{_↔_}
 use Prim.Native.Nat.{ℕ, _*_, _<_}
-use lib.IntN.{ℤ, pos, natAbs, _-ℤ_, _*ℤ_}
+use lib.IntN.{ℤ, pos, negℤ, natAbs, _-ℤ_, _*ℤ_}
 use lib.Signed.{_<ℤ_}
 use mathlib.Core.Path.{_≡_}
 use Rattle.arithmetic.specs.Fraction.{Near, Fraction}
 use Rattle.figures.specs.declared.Calibration.{Calibration}
 use Rattle.compensation.specs.Exact.{rawCellF, crawF, cellF, rawSystemF, srawF, sysF}
-use Rattle.compensation.specs.Stat.{Raised, tempUnder, tempOver, elecUnder, elecOver, tempur, tempor, ecomur, ecomor, crawur, crawor, sysur, sysor, lcinteg}
+use Rattle.compensation.specs.Stat.{Raised, tempur, tempor, ecomur, ecomor, crawur, crawor, sysur, sysor, lcinteg}
 use Rattle.compensation.specs.declared.steps.Values.{Values}
 
 -- x lies within k steps of q
@@ -40,9 +40,10 @@ pub record Faithful (c : Calibration) (elec temp : ℤ) (integrity : ℕ) (v : V
   pub crawor-right : Farther 42 (c .cell .cmax) (rawCellF c elec temp) → Raised crawor (v .stat) ↔ Above (rawCellF c elec temp) (c .cell .cmax)
   pub sysur-right : Farther 416 (c .system .smin) (rawSystemF c elec temp) → Raised sysur (v .stat) ↔ Below (rawSystemF c elec temp) (c .system .smin)
   pub sysor-right : Farther 416 (c .system .smax) (rawSystemF c elec temp) → Raised sysor (v .stat) ↔ Above (rawSystemF c elec temp) (c .system .smax)
-  -- the others, always
-  pub tempur-right : Raised tempur (v .stat) ↔ temp <ℤ tempUnder
-  pub tempor-right : Raised tempor (v .stat) ↔ tempOver <ℤ temp
-  pub ecomur-right : Raised ecomur (v .stat) ↔ elec <ℤ elecUnder
-  pub ecomor-right : Raised ecomor (v .stat) ↔ elecOver <ℤ elec
+  -- the others, always: "TEMPUR .. (TEMP below −3,276,800), TEMPOR .. (above 5,898,240), ECOMUR .. and ECOMOR .. (ELEC below −7,864,320,
+  -- above 7,864,320)"
+  pub tempur-right : Raised tempur (v .stat) ↔ temp <ℤ negℤ (pos 3276800)
+  pub tempor-right : Raised tempor (v .stat) ↔ pos 5898240 <ℤ temp
+  pub ecomur-right : Raised ecomur (v .stat) ↔ elec <ℤ negℤ (pos 7864320)
+  pub ecomor-right : Raised ecomor (v .stat) ↔ pos 7864320 <ℤ elec
   pub lcinteg-right : Raised lcinteg (v .stat) ↔ (integrity ≡ 1)

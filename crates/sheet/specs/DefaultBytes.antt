@@ -4,7 +4,10 @@
 use mathlib.Core.Path.{_≡_}
 use mathlib.Core.List.{List, [], _∷_, _++_}
 use Prim.Native.Nat.{ℕ}
+use lib.IntN.{pos}
 use Rattle.figures.specs.Default.{defaultSheet}
+use Rattle.figures.specs.Unused.{noTemperature, noLinearity}
+use Rattle.figures.specs.declared.Calibration.{Calibration}
 use Rattle.sheet.specs.Write.{sheetBytes}
 
 -- figures: 0, a gain of 1, and so many units, above 0 and below
@@ -35,3 +38,34 @@ defaultBytes =
 
 abbrev pub DefaultBytes : Type 0
 DefaultBytes = sheetBytes defaultSheet ≡ defaultBytes
+
+-- ---- Of the default's figures many are 0. These all differ, so that no two can stand for each other unseen.
+
+abbrev small : ℕ → List ℕ
+small n = n ∷ 0 ∷ 0 ∷ 0 ∷ 0 ∷ 0 ∷ 0 ∷ 0 ∷ []
+
+abbrev pub differing : Calibration
+differing = record {
+  cell = record { cofs = pos 1; cgai = pos 2; cmin = pos 3; cmax = pos 4 };
+  temperature = record {
+    ctn = 2;
+    points = record { ct = pos 5; cto = pos 6; ctg = pos 7 } ∷ record { ct = pos 8; cto = pos 9; ctg = pos 10 } ∷ noTemperature ∷ noTemperature ∷ noTemperature ∷ [];
+  };
+  linearity = record {
+    cln = 2;
+    points = record { clx = pos 11; clk = pos 12 } ∷ record { clx = pos 13; clk = pos 14 } ∷ noLinearity ∷ noLinearity ∷ noLinearity ∷ noLinearity ∷ noLinearity ∷ [];
+  };
+  system = record { sofs = pos 15; sgai = pos 16; smin = pos 17; smax = pos 18; sz = pos 19 };
+  filter = record { fflv = pos 20; ffst = pos 21 };
+}
+
+abbrev pub differingBytes : List ℕ
+differingBytes =
+    4 ∷ small 1 ++ small 2 ++ small 3 ++ small 4
+    ++ 2 ∷ small 5 ++ small 6 ++ small 7 ++ small 8 ++ small 9 ++ small 10
+    ++ 2 ∷ small 11 ++ small 12 ++ small 13 ++ small 14
+    ++ 5 ∷ small 15 ++ small 16 ++ small 17 ++ small 18 ++ small 19
+    ++ 2 ∷ small 20 ++ small 21
+
+abbrev pub DifferingBytes : Type 0
+DifferingBytes = sheetBytes differing ≡ differingBytes
