@@ -24,7 +24,7 @@ use Rattle.modbus.specs.Frame.{checked, toUs, forUs, accessAsked, writeOf, writ
 use Rattle.state.specs.Reading as reading
 use Rattle.state.specs.Reading.{outside, badReading, larger, smaller, peakAfter, trofAfter, readingsAfter}
 use Rattle.panel.specs.Figure.{isFigure, written, cellWith, temperaturePointWith, temperatureWith, linearityPointWith, linearityWith, systemWith, filterWith, withFigure}
-use Rattle.sheet.specs.Judge.{shortOf, wrongCount, beyond, notBelow, tooSteep, cellNumber, temperatureNumber, temperaturePointNumber, linearityNumber, linearityPointNumber, systemNumber, filterNumber, sectionsNumber, figuresNumber}
+use Rattle.sheet.specs.Judge.{shortOf, wrongCount, outOfRange, notBelow, tooSteep, cellNumber, temperatureNumber, temperaturePointNumber, linearityNumber, linearityPointNumber, systemNumber, filterNumber, sectionsNumber, figuresNumber}
 use Rattle.in_force.specs.InForce.{copyFits, applied, setupWritten, setupActed, setupBy}
 use Rattle.state.specs.Request.{fresh, snapped, acted, flagged, stateBy}
 use Rattle.converter.specs.Making.{stationFits, started, made}
@@ -65,7 +65,7 @@ pub record Example (d : Device) : Type 0 where
 pub example : Example (run start calls)
 unfolding roundDiv floorDiv between interpolated defaultSheet temperatures linearities hold filtered scaled y rawCell craw cell rawSystem sraw sys bitAt statOf valuesOf takes nearest counted
     rangeOf ofBits shifted shifts withByte accessOf checked toUs forUs accessAsked writeOf writeAsked judged outside badReading larger smaller peakAfter trofAfter readingsAfter reading.stateAfterValues reading.stateAfterReading unusedZero isFigure written cellWith
-    temperaturePointWith temperatureWith linearityPointWith linearityWith systemWith filterWith withFigure shortOf wrongCount beyond notBelow tooSteep cellNumber temperatureNumber temperaturePointNumber linearityNumber
+    temperaturePointWith temperatureWith linearityPointWith linearityWith systemWith filterWith withFigure shortOf wrongCount outOfRange notBelow tooSteep cellNumber temperatureNumber temperaturePointNumber linearityNumber
     linearityPointNumber systemNumber filterNumber sectionsNumber figuresNumber copyFits applied setupWritten setupActed setupBy fresh snapped acted flagged stateBy
 example = record {
   reached = record { sheet = sheetBytes defaultSheet; station = 52; accepted = ap (λ (r : Outcome). r .number) default-made; calls = calls; is = sym (ap (λ (r : Outcome). run (r .device) calls) default-made) };

@@ -9,7 +9,7 @@ use Rattle.register.specs.Number.{CGAI, CTO}
 use Rattle.register.specs.Listed.{kindSaid, acting, valued, onlyRead, notListed, Kind}
 use Rattle.register.proofs.Run.{at-every}
 use Rattle.panel.specs.Figure.{isFigure}
-use Rattle.panel.proofs.Listed.{over, beyond}
+use Rattle.panel.proofs.Listed.{over, past-last}
 
 abbrev pub unlisted : Kind → Bool
 unlisted notListed = true
@@ -37,4 +37,4 @@ figure-listed n f e = by (ltb n (CTO + 5)) refl
       where
         clash : T (not (isFigure n && unlisted (kindSaid n))) → ⊥
         clash t = rw (f, e) at t
-    by false g = true≢false (sym f ∙ sym (beyond n (ltb-false n _ g)))
+    by false g = true≢false (sym f ∙ sym (past-last n (ltb-false n _ g)))

@@ -18,6 +18,6 @@ all b n i = every (λ j. cond b (isFigure j) (not (isFigure j))) n i
 pub over : (b : Bool) (n i : ℕ) → T (all b n i) → (r : ℕ) → i ≤ r → r < i + n → b ≡ isFigure r
 over b n i t r l h = told b (isFigure r) (at-every (λ j. cond b (isFigure j) (not (isFigure j))) n i t r l h)
 
-pub beyond : (r : ℕ) → CTO + 5 ≤ r → false ≡ isFigure r
+pub past-last : (r : ℕ) → CTO + 5 ≤ r → false ≡ isFigure r
 unfolding isFigure
-beyond r h = simp (le-ltb r CLN (omega arith), le-ltb r SGAI (omega arith), le-ltb r FFLV (omega arith), le-ltb r CTN (omega arith), ne-eqb r CTN (λ e. omega (arith, e)), above CT (CT + 4) r (omega arith), above CTG (CTG + 4) r (omega arith), above CTO (CTO + 4) r (omega arith))
+past-last r h = simp (le-ltb r CLN (omega arith), le-ltb r SGAI (omega arith), le-ltb r FFLV (omega arith), le-ltb r CTN (omega arith), ne-eqb r CTN (λ e. omega (arith, e)), above CT (CT + 4) r (omega arith), above CTG (CTG + 4) r (omega arith), above CTO (CTO + 4) r (omega arith))

@@ -19,7 +19,7 @@ use Rattle.register.proofs.Ends.{none-in}
 use Rattle.panel.specs.Figure.{among, cellFigure, linearityFigure, systemFigure, filterFigure, temperatureFigure, figureAt, isFigure, withFigure, systemWith, written}
 use Rattle.panel.specs.Placed.{temperaturePoint, linearityPoint, Shown, numbers, Placed}
 use Rattle.panel.proofs.Columns.{clx-at, clk-at, ct-at, ctg-at, cto-at}
-use Rattle.panel.proofs.Listed.{beyond}
+use Rattle.panel.proofs.Listed.{past-last}
 use Rattle.panel.proofs.Places.{read-written, others-kept, counts-written}
 
 -- ---- the tables' sections
@@ -69,7 +69,7 @@ these n = by (ltb n 126) refl
   where
     by : (b : Bool) → ltb n 126 ≡ b → isFigure n ≡ isIn numbers n
     by true e = low n (ltb-true n 126 e)
-    by false e = sym (beyond n (ltb-false n 126 e)) ∙ sym (none-in numbers n tt (ltb-false n 126 e))
+    by false e = sym (past-last n (ltb-false n 126 e)) ∙ sym (none-in numbers n tt (ltb-false n 126 e))
 
 -- and no other: v is 0 where q is false
 record Only (q : Bool) (v : ℤ) : Type 0 where

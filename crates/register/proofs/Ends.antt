@@ -14,7 +14,7 @@ use Rattle.register.specs.Register.{accessOf, rangeOf}
 use Rattle.register.specs.Ends.{kindOf, EndsHold}
 use Rattle.register.specs.Listed.{Kind, notListed, onlyRead, valued, acting, isIn, kindSaid, readOnlys, values, actions}
 use Rattle.register.proofs.Run.{at-every}
-use Rattle.register.proofs.Registers.{beyond}
+use Rattle.register.proofs.Registers.{past-last}
 
 -- ---- below 126, by one computed test
 
@@ -61,7 +61,7 @@ kinds n = by (ltb n 126) refl
   where
     by : (b : Bool) → ltb n 126 ≡ b → kindOf (accessOf n) ≡ kindSaid n
     by true e = as-said n (ltb-true n 126 e)
-    by false e = ap kindOf (sym (beyond n (ltb-false n 126 e))) ∙ none-said n (ltb-false n 126 e)
+    by false e = ap kindOf (sym (past-last n (ltb-false n 126 e))) ∙ none-said n (ltb-false n 126 e)
 
 pub ends-hold : EndsHold
 unfolding roundDiv floorDiv ofBits takes nearest counted accessOf rangeOf

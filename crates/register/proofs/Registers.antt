@@ -99,9 +99,9 @@ none-beyond (r ∷ rest) n t h =
     no true = refl
     no false = refl
 
-pub beyond : (n : ℕ) → 126 ≤ n → Unlisted ≡ accessOf n
+pub past-last : (n : ℕ) → 126 ≤ n → Unlisted ≡ accessOf n
 unfolding accessOf
-beyond n h = none-beyond registers n tt h
+past-last n h = none-beyond registers n tt h
 
 -- ---- what a test tells of every row, it tells of every register
 

@@ -7,12 +7,12 @@ use Rattle.figures.specs.Acceptable.{CellAcceptable, SystemAcceptable, FilterAc
 use Rattle.figures.specs.declared.Cell.{Cell}
 use Rattle.figures.specs.declared.System.{System}
 use Rattle.figures.specs.declared.Filter.{Filter}
-use Rattle.sheet.specs.Judge.{never, wrongCount, beyond, notBelow, cellNumber, systemNumber, filterNumber}
+use Rattle.sheet.specs.Judge.{never, wrongCount, outOfRange, notBelow, cellNumber, systemNumber, filterNumber}
 use Rattle.sheet.proofs.Chain.{then-none, both}
 use Rattle.sheet.proofs.Numbers.{beyond-in, in-beyond, figure-in, in-figure, below-in, in-below}
 
 abbrev pub far : ℕ → ℤ → ℕ
-far n v = beyond (negℤ (pos n)) (pos n) v
+far n v = outOfRange (negℤ (pos n)) (pos n) v
 
 -- ---- cell, system, filter
 
@@ -47,7 +47,7 @@ in-system at s h =
 pub filter-in : (at : ℕ) (f : Filter) → filterNumber never at 2 f ≡ 0 → FilterAcceptable f
 unfolding filterNumber wrongCount
 filter-in at f h =
-    let u = then-none {a = beyond (pos 0) (pos fflvMost) (f .fflv)} h in
+    let u = then-none {a = outOfRange (pos 0) (pos fflvMost) (f .fflv)} h in
     let v = beyond-in _ _ _ (u .0) in
     let w = beyond-in _ _ _ (u .1) in
     record { fflv-least = v .0; fflv-most = v .1; ffst-least = w .0; ffst-most = w .1 }

@@ -9,7 +9,7 @@ use Rattle.figures.specs.Default.{defaultSheet, apart}
 use Rattle.figures.specs.Unused.{unusedZero}
 use Rattle.figures.proofs.Default.{default-representable, default-acceptable}
 use Rattle.sheet.specs.Bytes.{figureAt, figureBytes}
-use Rattle.sheet.specs.Judge.{shortOf, wrongCount, beyond, notBelow, tooSteep, trailing, cellNumber, temperaturePointNumber, temperatureNumber, linearityPointNumber, linearityNumber, systemNumber, filterNumber, sectionsNumber}
+use Rattle.sheet.specs.Judge.{shortOf, wrongCount, outOfRange, notBelow, tooSteep, trailing, cellNumber, temperaturePointNumber, temperatureNumber, linearityPointNumber, linearityNumber, systemNumber, filterNumber, sectionsNumber}
 use Rattle.sheet.specs.Read.{cellAt, temperaturePointAt, linearityPointAt, temperatureAt, linearityAt, systemAt, filterAt, figuresOf, sheetNumber, readSheet}
 use Rattle.sheet.specs.Write.{cellBytes, temperaturePointBytes, linearityPointBytes, temperatureBytes, linearityBytes, systemBytes, filterBytes, sheetBytes}
 use Rattle.sheet.proofs.Theorems.{written-read}
@@ -40,7 +40,7 @@ pub record Edges : Type 0 where
   pub left-to-right : sheetNumber (take 100 (set bytes 8 1)) ≡ 3
 
 pub edges : Edges
-unfolding sheetNumber sectionsNumber cellNumber temperatureNumber temperaturePointNumber linearityNumber linearityPointNumber systemNumber filterNumber shortOf wrongCount beyond notBelow tooSteep trailing
+unfolding sheetNumber sectionsNumber cellNumber temperatureNumber temperaturePointNumber linearityNumber linearityPointNumber systemNumber filterNumber shortOf wrongCount outOfRange notBelow tooSteep trailing
     figuresOf cellAt temperatureAt temperaturePointAt linearityAt linearityPointAt systemAt filterAt figureAt signedOf
     sheetBytes cellBytes temperatureBytes linearityBytes systemBytes filterBytes temperaturePointBytes linearityPointBytes figureBytes defaultSheet
 edges = record { two-and-two = refl; accepted = refl; short = refl; trailing-byte = refl; one-point = refl; figure = refl; order = refl; crossed = refl; gentle = refl; steep = refl; left-to-right = refl }

@@ -11,7 +11,7 @@ use Rattle.integers.specs.Within.{_within_}
 use Rattle.integers.proofs.Order.{lt-yes, lt-no, yes-lt, no-lt}
 use Rattle.integers.proofs.Magnitude.{within-of, within-least, within-most}
 use Rattle.figures.specs.declared.LinearityPoint.{LinearityPoint}
-use Rattle.sheet.specs.Judge.{shortOf, wrongCount, beyond, notBelow, tooSteep, trailing}
+use Rattle.sheet.specs.Judge.{shortOf, wrongCount, outOfRange, notBelow, tooSteep, trailing}
 
 -- ---- a number that a test picks
 
@@ -53,20 +53,20 @@ in-whole h = simp (le-ltb _ _ h)
 
 -- ---- 3
 
-pub beyond-in : (least most v : ℤ) → beyond least most v ≡ 0 → (least ≤ℤ v) × (v ≤ℤ most)
-unfolding beyond
+pub beyond-in : (least most v : ℤ) → outOfRange least most v ≡ 0 → (least ≤ℤ v) × (v ≤ℤ most)
+unfolding outOfRange
 beyond-in least most v h =
     let e = test-no (ltZ v least) 2 _ h in
     (lt-no (e .0), lt-no (test-no (ltZ most v) 2 0 (e .1) .0))
 
-pub in-beyond : {least most v : ℤ} → least ≤ℤ v → v ≤ℤ most → beyond least most v ≡ 0
-unfolding beyond
+pub in-beyond : {least most v : ℤ} → least ≤ℤ v → v ≤ℤ most → outOfRange least most v ≡ 0
+unfolding outOfRange
 in-beyond h k = simp (no-lt h, no-lt k)
 
-pub figure-in : (n : ℕ) (v : ℤ) → beyond (negℤ (pos n)) (pos n) v ≡ 0 → v within n
+pub figure-in : (n : ℕ) (v : ℤ) → outOfRange (negℤ (pos n)) (pos n) v ≡ 0 → v within n
 figure-in n v h = let r = beyond-in (negℤ (pos n)) (pos n) v h in within-of (r .0) (r .1)
 
-pub in-figure : {n : ℕ} {v : ℤ} → v within n → beyond (negℤ (pos n)) (pos n) v ≡ 0
+pub in-figure : {n : ℕ} {v : ℤ} → v within n → outOfRange (negℤ (pos n)) (pos n) v ≡ 0
 in-figure h = in-beyond (within-least h) (within-most h)
 
 -- ---- 4, 6, 5

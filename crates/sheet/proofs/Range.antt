@@ -21,7 +21,7 @@ use Rattle.figures.specs.declared.System.{System}
 use Rattle.figures.specs.declared.Filter.{Filter}
 use Rattle.figures.specs.declared.Calibration.{Calibration}
 use Rattle.sheet.specs.Places.{temperatureStart, linearityStart, systemStart, filterStart, sheetEnd}
-use Rattle.sheet.specs.Judge.{_then_, shortOf, never, wrongCount, beyond, notBelow, tooSteep, trailing, pointsNumber, against}
+use Rattle.sheet.specs.Judge.{_then_, shortOf, never, wrongCount, outOfRange, notBelow, tooSteep, trailing, pointsNumber, against}
 use Rattle.sheet.specs.Judge.{countNumber, rangeNumber, figureNumber, cellNumber, temperaturePointNumber, temperatureNumber, linearityPointNumber, linearityNumber, systemNumber, filterNumber, sectionsNumber, figuresNumber}
 use Rattle.sheet.specs.Read.{figuresOf, sheetNumber, ctnOf, clnOf}
 use Rattle.sheet.specs.Bytes.{countAt}
@@ -50,7 +50,7 @@ module _ (P : ℕ → Type 0) where
       count-keeps at least most n = keep (missing (at + 1)) (picked (ltb n least) two (picked (ltb most n) two none))
 
       range-keeps : (at : ℕ) (least most v : ℤ) → P (rangeNumber short at least most v)
-      unfolding beyond
+      unfolding outOfRange
       range-keeps at least most v = keep (missing (at + 8)) (picked (ltZ v least) three (picked (ltZ most v) three none))
 
       below-keeps : (k : ℕ) (a b : ℤ) → P k → P (notBelow k a b)

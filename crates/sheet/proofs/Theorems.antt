@@ -29,8 +29,8 @@ judged-acceptable c r = (figures-acceptable c r, acceptable-figures c r)
 
 -- ---- figures judged by themselves are judged as their bytes are
 
-pub judged : (c : Calibration) → Representable c → Fitting c → sheetNumber (sheetBytes c) ≡ figuresNumber c
-judged c r f = bytes-judged (sheetBytes c) c (sheet-cut (sheetBytes c) c r f refl)
+pub written-judged : (c : Calibration) → Representable c → Fitting c → sheetNumber (sheetBytes c) ≡ figuresNumber c
+written-judged c r f = bytes-judged (sheetBytes c) c (sheet-cut (sheetBytes c) c r f refl)
 
 -- ---- figures written and read come back, unused points 0
 

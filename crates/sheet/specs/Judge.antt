@@ -41,8 +41,8 @@ unfoldable pub wrongCount : ℕ → ℕ → ℕ → ℕ
 wrongCount least most n = cond (ltb n least) 2 (cond (ltb most n) 2 0)
 
 -- 3 "beyond its range"
-unfoldable pub beyond : ℤ → ℤ → ℤ → ℕ
-beyond least most v = cond (ltZ v least) 3 (cond (ltZ most v) 3 0)
+unfoldable pub outOfRange : ℤ → ℤ → ℤ → ℕ
+outOfRange least most v = cond (ltZ v least) 3 (cond (ltZ most v) 3 0)
 
 -- 4 "CT or CLX not above the one before", 6 "CMIN not below CMAX, or SMIN not below SMAX"
 unfoldable pub notBelow : ℕ → ℤ → ℤ → ℕ
@@ -74,7 +74,7 @@ module _ (short : ℕ → ℕ) where
   countNumber at least most n = short (at + 1) then wrongCount least most n
 
   abbrev pub rangeNumber : ℕ → ℤ → ℤ → ℤ → ℕ
-  rangeNumber at least most v = short (at + 8) then beyond least most v
+  rangeNumber at least most v = short (at + 8) then outOfRange least most v
 
   -- of magnitude `most` or less
   abbrev pub figureNumber : ℕ → ℕ → ℤ → ℕ

@@ -17,7 +17,7 @@ use Rattle.sheet.specs.Judge.{_then_, figuresNumber}
 use Rattle.sheet.specs.Write.{sheetBytes}
 use Rattle.sheet.proofs.Accepted.{figures-acceptable, acceptable-figures, acceptable-fits}
 use Rattle.sheet.proofs.Range.{figures-numbers}
-use Rattle.sheet.proofs.Theorems.{judged, written-length}
+use Rattle.sheet.proofs.Theorems.{written-judged, written-length}
 use Rattle.sheet_writer.specs.Write.{writeNumber, writtenOf, outAfter}
 use Rattle.sheet_writer.specs.Refusals.{AlwaysWriting}
 
@@ -56,7 +56,7 @@ unfolding writtenOf outAfter
 always-writing c out r f = record {
   unfit-least = λ h. subst (λ (n : ℕ). 2 ≤ n) (sym (unfit c out r h .0)) (unfit c out r h .1 .0);
   unfit-most = λ h. subst (λ (n : ℕ). n ≤ 6) (sym (unfit c out r h .0)) (unfit c out r h .1 .1);
-  unfit-order = λ h. unfit c out r h .0 ∙ sym (judged c r f);
+  unfit-order = λ h. unfit c out r h .0 ∙ sym (written-judged c r f);
   short = λ h l. fit c out r h ∙ rw (lt-ltb (length out) (sheetLength c) (omega (arith, l, long c out r h))) refl;
   accepted = λ h l. fit c out r h ∙ rw (le-ltb (length out) (sheetLength c) (omega (arith, l, long c out r h))) refl;
   bytes-written = λ e. rw e (sym (long c out r (written c out r e)));

@@ -4,7 +4,7 @@ use mathlib.Core.Bool.{true, false}
 use native.Mathlib.Omega.{arith}
 use Rattle.register.specs.Number.{CGAI, COFS, CMIN, CMAX, CLN, CLX, CLK, SGAI, SOFS, SMIN, SMAX, FFLV, FFST, CTN}
 use Rattle.panel.specs.Figure.{isFigure}
-use Rattle.panel.proofs.Listed.{over, beyond}
+use Rattle.panel.proofs.Listed.{over, past-last}
 use Rattle.panel.proofs.is_figure.Statement.{statement}
 use Rattle.panel.proofs.is_figure.Tie as tie
 
@@ -29,4 +29,4 @@ is-figure-spec =
     (λ c. over false 2 (SOFS + 1) tt (c .before .before .before .args .register) (omega arith) (omega arith))
     (λ c. over false 16 (SMAX + 1) tt (c .before .before .before .before .before .args .register) (omega arith) (omega arith))
     (λ c. over false 16 (FFST + 1) tt (c .before .before .before .before .before .before .before .args .register) (omega arith) (omega arith))
-    (λ c. beyond (c .before .before .before .before .before .before .before .before .args .register) (omega arith)))
+    (λ c. past-last (c .before .before .before .before .before .before .before .before .args .register) (omega arith)))

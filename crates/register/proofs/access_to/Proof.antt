@@ -11,7 +11,7 @@ use Rattle.figures.specs.Limits.{cellMost, ctMost, ctoMost, ctgMost, clxMost, c
 use Rattle.register.specs.declared.Access.the-variants.{Unlisted, ReadOnly, Action}
 use Rattle.register.specs.Number.{STAT, SOUT, FLAG, ELEC, SZ, TROF, CGAI, COFS, CMIN, CMAX, CLN, CLX, CLK, SGAI, SOFS, SMIN, SMAX, FFLV, FFST, APPLY, RST, SNAP, PEAKRESET, CTN, CTG, CTO}
 use Rattle.register.specs.Register.{accessOf, steps, parts}
-use Rattle.register.proofs.Registers.{in-range, beyond}
+use Rattle.register.proofs.Registers.{in-range, past-last}
 use Rattle.register.proofs.access_to.Statement.{statement}
 use Rattle.register.proofs.access_to.Tie as tie
 
@@ -37,7 +37,7 @@ no-key c =
     )
 
 past-the-last : tie.Need-returns-33
-past-the-last c = beyond _ (omega arith)
+past-the-last c = past-last _ (omega arith)
 
 pub access-to-spec : {M : Type 1} → statement M
 unfolding accessOf

@@ -9,7 +9,7 @@ use lib.Dec.{eqb}
 use Rattle.register.specs.declared.Access.the-variants.{Unlisted}
 use Rattle.register.specs.Number.{STAT, SOUT, ELEC, SZ, TROF, CGAI, COFS, CMIN, CMAX, CLN, CLX, CLK, SGAI, SOFS, SMIN, SMAX, FFLV, FFST, APPLY, RST, SNAP, PEAKRESET, CTN}
 use Rattle.register.specs.Register.{listed, accessOf}
-use Rattle.register.proofs.Registers.{in-range, beyond, listed-over}
+use Rattle.register.proofs.Registers.{in-range, past-last, listed-over}
 use Rattle.register.proofs.is_listed.Statement.{statement}
 use Rattle.register.proofs.is_listed.Tie as tie
 
@@ -30,7 +30,7 @@ is-listed-spec =
     (λ c. listed-over false 5 (FFST + 1) tt (c .before .before .before .before .before .before .before .before .args .register) (omega arith) (omega arith))
     (λ c. listed-over false 2 (RST + 1) tt (c .before .before .before .before .before .args .register) (omega arith) (omega arith))
     (λ c. listed-over false 5 (PEAKRESET + 1) tt (c .before .before .before .before .before .before .before .args .register) (omega arith) (omega arith))
-    (λ c. ap listed (beyond (c .before .before .before .before .before .before .before .before .args .register) (omega arith)))
+    (λ c. ap listed (past-last (c .before .before .before .before .before .before .before .before .args .register) (omega arith)))
     (λ c. ap (λ (n : ℕ). listed (accessOf n)) (sym (c .match .keys1)))
     (λ c. listed-over true 8 SOUT tt (c .before .before .before .before .before .args .register) (omega arith) (omega arith))
     (λ c. listed-over true 4 SZ tt (c .before .before .before .before .before .before .before .args .register) (omega arith) (omega arith))

@@ -1,6 +1,6 @@
 -- A figure: 1, then 3. Assumes nothing.
 use Rattle.integers.proofs.Machine.{fits}
-use Rattle.sheet.specs.Judge.{beyond, shortOf}
+use Rattle.sheet.specs.Judge.{outOfRange, shortOf}
 use borrow.Author.Tests.{le-ltb, lt-ltb}
 use lib.Signed.{ltZ}
 use mathlib.Core.Bool.{false, true}
@@ -15,14 +15,14 @@ unfolding shortOf
 returns c = simp (lt-ltb _ _ (c .if1 .taken))
 
 returns-2 : tie.Need-returns-2
-unfolding shortOf beyond
+unfolding shortOf outOfRange
 returns-2 c =
     let s = c .before .before in
     let e : ltZ (s .args .v) (s .args .least) ≡ true = simp (toZ-ofZ, s .fits .v, s .fits .least) at (c .if2 .taken) in
     simp (le-ltb _ _ (c .before .if1 .left), e)
 
 returns-3 : tie.Need-returns-3
-unfolding shortOf beyond
+unfolding shortOf outOfRange
 returns-3 c =
     let s = c .before .before .before in
     let d : ltZ (s .args .v) (s .args .least) ≡ false = simp (toZ-ofZ, s .fits .v, s .fits .least) at (c .before .if2 .left) in
@@ -30,7 +30,7 @@ returns-3 c =
     simp (le-ltb _ _ (c .before .before .if1 .left), d, e)
 
 returns-4 : tie.Need-returns-4
-unfolding shortOf beyond
+unfolding shortOf outOfRange
 returns-4 c =
     let s = c .before .before .before in
     let d : ltZ (s .args .v) (s .args .least) ≡ false = simp (toZ-ofZ, s .fits .v, s .fits .least) at (c .before .if2 .left) in
