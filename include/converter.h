@@ -1,5 +1,5 @@
-/* The converter of a load cell: readings, calibration sheet and Modbus RTU (paper 01), and calibration over the bus
- * (paper 02, Change 1), proved in Rattle.
+/* The converter of a load cell: readings, calibration sheet and Modbus RTU (paper 01), with calibration over the bus
+ * and a filter level between samples (paper 02, Changes 1 and 2), proved in Rattle.
  *
  * Link the archive libboard.a (`rt staticlib board`, x86-64). There is no heap and no global state: everything that a
  * device is stands in one record that the caller keeps, for as long as it likes and where it likes. A call runs to its
@@ -34,7 +34,7 @@ extern "C" {
 #endif
 
 /* Another MAJOR: code that was compiled with the older header must not be linked with this archive. */
-#define CONVERTER_VERSION_MAJOR 2
+#define CONVERTER_VERSION_MAJOR 3
 #define CONVERTER_VERSION_MINOR 0
 #define CONVERTER_VERSION_PATCH 0
 
@@ -119,7 +119,10 @@ enum {
  * The figures stand twice: readings go by `figures`, those in force; a write to a figure's register goes to `copy`,
  * the waiting copy, and a read of that register shows it. A write to APPLY puts the copy in force from the next
  * reading, or is refused with 17; it leaves SZ, the copy and `state` as they are. RST sets the copy back to the figures
- * in force. */
+ * in force.
+ *
+ * Of the last reading, `input` is ELEC as it was handed in, with which the next one is compared by FFLV, and `elec` is
+ * the filter's held value. A start and RST forget both; a refused reading and all other writes leave them. */
 
 typedef struct { int64_t cofs, cgai, cmin, cmax; } converter_cell;
 typedef struct { int64_t ct, cto, ctg; } converter_temperature_point;
@@ -139,7 +142,7 @@ typedef struct {
 
 typedef struct { converter_calibration figures, copy; uint8_t station; } converter_setup;
 typedef struct { int64_t craw, cell, sraw, sys; uint16_t stat; } converter_values;
-typedef struct { bool any; int64_t elec, temp; converter_values values; int64_t peak, trof; } converter_readings;
+typedef struct { bool any; int64_t input, elec, temp; converter_values values; int64_t peak, trof; } converter_readings;
 typedef struct { bool taken; int64_t sysn; } converter_snapshot;
 typedef struct { converter_readings readings; uint16_t flag; converter_snapshot snapshot; } converter_state;
 typedef struct { converter_setup setup; converter_state state; } converter_device;
@@ -199,12 +202,13 @@ CONVERTER_AT(calibration, system, 280); CONVERTER_AT(calibration, filter, 320);
 CONVERTER_SIZE(setup, 680); CONVERTER_AT(setup, copy, 336); CONVERTER_AT(setup, station, 672);
 CONVERTER_SIZE(values, 40); CONVERTER_AT(values, cell, 8); CONVERTER_AT(values, sraw, 16);
 CONVERTER_AT(values, sys, 24); CONVERTER_AT(values, stat, 32);
-CONVERTER_SIZE(readings, 80); CONVERTER_AT(readings, elec, 8); CONVERTER_AT(readings, temp, 16);
-CONVERTER_AT(readings, values, 24); CONVERTER_AT(readings, peak, 64); CONVERTER_AT(readings, trof, 72);
+CONVERTER_SIZE(readings, 88); CONVERTER_AT(readings, input, 8); CONVERTER_AT(readings, elec, 16);
+CONVERTER_AT(readings, temp, 24); CONVERTER_AT(readings, values, 32); CONVERTER_AT(readings, peak, 72);
+CONVERTER_AT(readings, trof, 80);
 CONVERTER_SIZE(snapshot, 16); CONVERTER_AT(snapshot, sysn, 8);
-CONVERTER_SIZE(state, 104); CONVERTER_AT(state, flag, 80); CONVERTER_AT(state, snapshot, 88);
-CONVERTER_SIZE(device, 784); CONVERTER_AT(device, state, 680);
-CONVERTER_SIZE(outcome, 792); CONVERTER_AT(outcome, device, 8);
+CONVERTER_SIZE(state, 112); CONVERTER_AT(state, flag, 88); CONVERTER_AT(state, snapshot, 96);
+CONVERTER_SIZE(device, 792); CONVERTER_AT(device, state, 680);
+CONVERTER_SIZE(outcome, 800); CONVERTER_AT(outcome, device, 8);
 CONVERTER_SIZE(answered, 16); CONVERTER_AT(answered, length, 8);
 CONVERTER_SIZE(report_values, 16); CONVERTER_AT(report_values, peak, 4); CONVERTER_AT(report_values, trof, 8);
 CONVERTER_AT(report_values, cell, 12);

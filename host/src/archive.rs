@@ -21,7 +21,7 @@ record!(Filter { fflv: i64, ffst: i64 });
 record!(Calibration { cell: Cell, temperature: Temperature, linearity: Linearity, system: System, filter: Filter });
 record!(Values { craw: i64, cell: i64, sraw: i64, sys: i64, stat: u16 });
 record!(Setup { figures: Calibration, copy: Calibration, station: u8 });
-record!(Readings { any: u8, elec: i64, temp: i64, values: Values, peak: i64, trof: i64 });
+record!(Readings { any: u8, input: i64, elec: i64, temp: i64, values: Values, peak: i64, trof: i64 });
 record!(Snapshot { taken: u8, sysn: i64 });
 record!(State { readings: Readings, flag: u16, snapshot: Snapshot });
 record!(Device { setup: Setup, state: State });
@@ -64,6 +64,7 @@ impl Converter for Device {
         let State { readings: r, flag, snapshot } = self.state;
         let v = r.values;
         let reading = Reading {
+            input: r.input,
             elec: r.elec,
             temp: r.temp,
             craw: v.craw,

@@ -47,8 +47,8 @@ use Rattle.converter.proofs.Device.Laws as D′
 use Rattle.walks.proofs.Field.{IsStruct, sub-in}
 use Rattle.walks.proofs.Record.{held, Inside, within, stores}
 use Rattle.board.proofs.Kept.{device, mach, mach-figures, mach-setup, mach-cell, mach-temperature, mach-linearity, mach-system, mach-filter, mach-state, mach-readings, IsDevice, around, five, three-are}
-use Rattle.board.proofs.Kept.{mach-is, mach-setup-is, mach-five, number, zeroed, refigure, recopy, rezero, rezero-is, restate, figures-tell, state-tells, state-typed, state-is}
-use Rattle.board.proofs.Kept.{setup-is, figures-is, copy-is, five-is, readings-is, sz-is, station-fits}
+use Rattle.board.proofs.Kept.{mach-is, mach-setup-is, mach-five, number, zeroed, refigure, recopy, rezero, rezero-is, restate, inputted, reinput, reinput-is, figures-tell, state-tells, state-typed, state-is}
+use Rattle.board.proofs.Kept.{setup-is, figures-is, copy-is, five-is, readings-is, input-is, sz-is, station-fits}
 
 device-struct : IsStruct D′.mir
 device-struct = record { name = _; fields = _; is = refl }
@@ -61,6 +61,9 @@ figures-struct = record { name = _; fields = _; is = refl }
 
 state-struct : IsStruct S′.mir
 state-struct = record { name = _; fields = _; is = refl }
+
+readings-struct : IsStruct G′.mir
+readings-struct = record { name = _; fields = _; is = refl }
 
 system-struct : IsStruct Y′.mir
 system-struct = record { name = _; fields = _; is = refl }
@@ -87,8 +90,11 @@ sz-at = refl
 pub state-at : fieldOf D′.mir 1 ≡ some (S′.mir, 680)
 state-at = refl
 
-readings-at : fieldOf S′.mir 0 ≡ some (G′.mir, 0)
+pub readings-at : fieldOf S′.mir 0 ≡ some (G′.mir, 0)
 readings-at = refl
+
+pub input-field-at : fieldOf G′.mir 1 ≡ some (tyInt w64, 8)
+input-field-at = refl
 
 module _ {M : Type 1} {𝓤 : URA M} {H : Heap 𝓤} {A : Atoms 𝓤} {K : Type 0} {W : Given 𝓤 H A} {b o : ℕ} where
   setup-part : K → (u s : Val) → Part K W (‵ (fat fullShare D′.mir b o (vstruct (vcons u (vcons s vnil))))) fullShare U′.mir b (o + 0) u (λ w. ‵ (fat fullShare D′.mir b o (vstruct (vcons w (vcons s vnil)))))
@@ -134,6 +140,15 @@ module _ {M : Type 1} {𝓤 : URA M} {H : Heap 𝓤} {A : Atoms 𝓤} {K : Type 
       finds = fld t state-at (fld t readings-at (stop t));
       part = within (mach-is d ∙ ap (around d (mach-figures (d .setup .figures)) (mach-figures (d .setup .copy))) (three-are (d .state))) (sub-in t S′.mir state-struct 0 G′.mir 0 readings-at (state-part t _ _));
       typed = LL.lawful G.the-type G′.the-laws 𝓤 H A W .typed (d .state .readings) _ (readings-is d is) .0;
+    }
+
+    pub input-in : K → IsDevice d → Inside K W D′.mir b o (mach d) (field 1 ∷ field 0 ∷ field 1 ∷ []) (tyInt w64) (number (d .state .readings .input))
+    input-in t is = record {
+      offset = _;
+      back = _;
+      finds = fld t state-at (fld t readings-at (fld t input-field-at (stop t)));
+      part = within (reinput-is d (d .state .readings .input)) (sub-in t G′.mir readings-struct 1 (tyInt w64) 8 input-field-at (sub-in t S′.mir state-struct 0 G′.mir 0 readings-at (state-part t _ _)));
+      typed = sint-lawful 𝓤 H A W w64 .typed (d .state .readings .input) _ (input-is d is) .0;
     }
 
     pub setup-in : K → IsDevice d → Inside K W D′.mir b o (mach d) (field 0 ∷ []) U′.mir (mach-setup (d .setup))
@@ -202,6 +217,11 @@ module _ {M : Type 1} {𝓤 : URA M} {H : Heap 𝓤} {A : Atoms 𝓤} {K : Type 
   unfolding state-in
   stores-state t n d e was s is = stores t n e (state-in d t was) (LL.lawful S.the-type S′.the-laws 𝓤 H A W .typed s _ is .0) (mach (restate d s))
       (ap (around d (mach-figures (d .setup .figures)) (mach-figures (d .setup .copy))) (ap only (state-tells s _ is)) ∙ sym (mach-is (restate d s)))
+
+  pub stores-input : K → (n : ℕ) {b o : ℕ} (d : Device) → nth 𝓤 H A n Γ ≡ ‵ (held device b o d) → IsDevice d → (z : ℤ) {v : Val} → Is i64 z (v ∷ []) → Writes K W Γ (tyInt w64) b (o + 680 + 0 + 8) v (put 𝓤 H A n (‵ (held device b o (reinput d z))) Γ)
+  unfolding input-in
+  stores-input t n d e was z is = stores t n e (input-in d t was) (sint-lawful 𝓤 H A W w64 .typed z _ is .0) (mach (reinput d z))
+      (ap (λ (u : Val). around d (mach-figures (d .setup .figures)) (mach-figures (d .setup .copy)) (inputted (d .state) u)) (ap only (sint-tells w64 z _ is)) ∙ sym (reinput-is d z))
 
   pub stores-figures : K → (n : ℕ) {b o : ℕ} (d : Device) → nth 𝓤 H A n Γ ≡ ‵ (held device b o d) → IsDevice d → (c : Calibration) {v : Val} → Is F.the-row c (v ∷ []) → Writes K W Γ F′.mir b (o + 0 + 0) v (put 𝓤 H A n (‵ (held device b o (refigure d c))) Γ)
   unfolding figures-in

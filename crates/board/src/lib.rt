@@ -32,7 +32,10 @@ pub extern "C" fn converter_reading(device: &mut Device, elec: i64, temp: i64, i
     if state::bad_reading(elec, temp, integrity) {
         return 9;
     }
-    let held = state::held_after(device.setup.figures.filter, device.state.readings, elec);
+    // The input is stored before the filter, by what stood before it: no register is to keep it over the reading.
+    let before = device.state.readings;
+    device.state.readings.input = elec;
+    let held = state::held_after(device.setup.figures.filter, before, elec);
     let input = compensation::input_at(device.setup.figures.temperature, held, temp);
     let cell = compensation::cell_values(
         device.setup.figures.cell,

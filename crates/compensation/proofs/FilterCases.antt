@@ -6,15 +6,14 @@ use native.Mathlib.Omega.{arith}
 use lib.Dec.{lit<}
 use borrow.Author.Tests.{ne-eqb}
 use lib.IntN.{ℤ, pos, negsuc, natAbs, _+ℤ_, _-ℤ_}
-use lib.Signed.{ltZ, _≤ℤ_, _<ℤ_}
+use lib.Signed.{ltZ, _≤ℤ_}
 use mir.Syntax.{w64}
 use mir.Val.{SFits, ofZ}
 use Rattle.integers.proofs.Parts.{abs-parts, ints}
-use Rattle.integers.proofs.Difference.{⟨_⟩, nat, _⊕_, _⊝_, le!, lt!, le?, eq!, abs-above, abs-below}
-use Rattle.integers.proofs.Order.{yes-lt, no-lt, lt-no}
+use Rattle.integers.proofs.Difference.{⟨_⟩, nat, le!, lt! }
+use Rattle.integers.proofs.Order.{yes-lt, no-lt}
 use Rattle.integers.proofs.Machine.{eq-bits}
 use Rattle.arithmetic.specs.Round.{roundDiv}
-use Rattle.arithmetic.proofs.Round.{round-none}
 use Rattle.figures.specs.declared.Filter.{Filter}
 use Rattle.compensation.specs.Filter.{isZero, filtered}
 
@@ -39,12 +38,20 @@ within-level (negsuc n) change l h = absurd (l .le)
 
 -- ---- which value is held
 
-module _ (f : Filter) (first : Bool) (held input : ℤ) where
-  pub at-first : first ≡ true → filtered f first held input ≡ input
+module _ (f : Filter) (first : Bool) (previous held input : ℤ) where
+  pub at-first : first ≡ true → filtered f first previous held input ≡ input
   unfolding filtered
   at-first e = rw e
 
-  pub no-steps : isZero (f .ffst) ≡ true → filtered f first held input ≡ input
+  pub no-level : isZero (f .fflv) ≡ true → filtered f first previous held input ≡ input
+  unfolding filtered
+  no-level e = rw e (by _ first)
+    where
+      by : (x : ℤ) (a : Bool) → cond (a || true) input x ≡ input
+      by x true = refl
+      by x false = refl
+
+  pub no-steps : isZero (f .ffst) ≡ true → filtered f first previous held input ≡ input
   unfolding filtered
   no-steps e = rw e (by _ first (isZero (f .fflv)))
     where
@@ -53,7 +60,7 @@ module _ (f : Filter) (first : Bool) (held input : ℤ) where
       by x false true = refl
       by x false false = refl
 
-  pub too-far : ltZ (f .fflv) (pos (natAbs (input -ℤ held))) ≡ true → filtered f first held input ≡ input
+  pub too-far : ltZ (f .fflv) (pos (natAbs (input -ℤ previous))) ≡ true → filtered f first previous held input ≡ input
   unfolding filtered
   too-far e = rw e (by (first || (isZero (f .fflv) || isZero (f .ffst))))
     where
@@ -61,15 +68,6 @@ module _ (f : Filter) (first : Bool) (held input : ℤ) where
       by true = refl
       by false = refl
 
-  -- within an FFLV of 0 only the held value itself is left, and a step of none is none
-  pub one-step : first ≡ false → isZero (f .ffst) ≡ false → pos 0 <ℤ f .ffst → ltZ (f .fflv) (pos (natAbs (input -ℤ held))) ≡ false → filtered f first held input ≡ held +ℤ roundDiv (input -ℤ held) (f .ffst)
+  pub one-step : first ≡ false → isZero (f .fflv) ≡ false → isZero (f .ffst) ≡ false → ltZ (f .fflv) (pos (natAbs (input -ℤ previous))) ≡ false → filtered f first previous held input ≡ held +ℤ roundDiv (input -ℤ held) (f .ffst)
   unfolding filtered
-  one-step a b p d = rw (a, b, d) (by (f .fflv) (lt-no d))
-    where
-      by : (level : ℤ) → pos (natAbs (input -ℤ held)) ≤ℤ level → cond (isZero level || false) input (held +ℤ roundDiv (input -ℤ held) (f .ffst)) ≡ held +ℤ roundDiv (input -ℤ held) (f .ffst)
-      by (pos zero) h =
-          let none : natAbs (input -ℤ held) ≡ 0 = omega (arith, le? (nat (natAbs (input -ℤ held))) (nat 0) h) in
-          let same = ⟨ input ⟩ ⊝ ⟨ held ⟩ in
-          rw (round-none (input -ℤ held) (f .ffst) p (omega (ints, abs-parts (f .ffst)))) (eq! ⟨ input ⟩ (⟨ held ⟩ ⊕ nat 0) (omega (arith, abs-above same, abs-below same)))
-      by (pos (suc n)) h = rw (ne-eqb (suc n) 0 (λ e. omega arith))
-      by (negsuc n) h = refl
+  one-step a l s d = rw (a, l, s, d) refl

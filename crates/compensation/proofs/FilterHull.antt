@@ -1,5 +1,5 @@
--- The filter keeps the range: the held value lies between the one before and the input, whatever FFLV is and for every FFST
--- from 0, so it stays within any bound that the inputs keep. Assumes nothing.
+-- The filter keeps the range: the held value lies between the one before and the input, whatever FFLV and the previous input are and
+-- for every FFST from 0, so it stays within any bound that the inputs keep. Assumes nothing.
 use mathlib.Core.Path.{_≡_}
 use mathlib.Core.Bool.{Bool, true, false, cond, _||_}
 use Prim.Native.Nat.{ℕ, zero, suc}
@@ -46,11 +46,11 @@ on-pos first fflv (pos zero) h e = absurd (is-false (off first (isZero fflv) e))
     off false false e = e
 on-pos first fflv (pos (suc m)) h e = lt! (nat 0) (nat (suc m)) (omega arith)
 
-pub filtered-within : {n : ℕ} (f : Filter) (first : Bool) (held input : ℤ) → FilterAcceptable f → held within n → input within n → (filtered f first held input) within n
+pub filtered-within : {n : ℕ} (f : Filter) (first : Bool) (previous held input : ℤ) → FilterAcceptable f → held within n → input within n → (filtered f first previous held input) within n
 unfolding filtered
-filtered-within {n} f first held input ok a b =
-    pick (first || (isZero (f .fflv) || isZero (f .ffst))) input (cond (ltZ (f .fflv) (pos (natAbs (input -ℤ held)))) input (held +ℤ roundDiv (input -ℤ held) (f .ffst))) (λ z. z within n)
+filtered-within {n} f first previous held input ok a b =
+    pick (first || (isZero (f .fflv) || isZero (f .ffst))) input (cond (ltZ (f .fflv) (pos (natAbs (input -ℤ previous)))) input (held +ℤ roundDiv (input -ℤ held) (f .ffst))) (λ z. z within n)
     (λ e. b)
-    (λ e. pick (ltZ (f .fflv) (pos (natAbs (input -ℤ held)))) input (held +ℤ roundDiv (input -ℤ held) (f .ffst)) (λ z. z within n)
+    (λ e. pick (ltZ (f .fflv) (pos (natAbs (input -ℤ previous)))) input (held +ℤ roundDiv (input -ℤ held) (f .ffst)) (λ z. z within n)
     (λ k. b)
     (λ k. step-within held input (f .ffst) (on-pos first (f .fflv) (f .ffst) (ok .ffst-least) e) a b))

@@ -1,6 +1,6 @@
 -- Step 1's second statement holds of `filtered`, and of nothing else by acceptable figures. Assumes nothing.
 use mathlib.Core.Path.{_≡_, refl, sym, _∙_, ap, subst}
-use mathlib.Core.Bool.{Bool, true, false, cond, _||_}
+use mathlib.Core.Bool.{Bool, true, false}
 use mathlib.Core.Logic.{⊎-elim}
 use Prim.Native.Nat.{zero, suc, _*_, _≤_}
 use native.Mathlib.Omega.{arith}
@@ -15,7 +15,7 @@ use Rattle.figures.specs.Acceptable.{FilterAcceptable}
 use Rattle.figures.specs.declared.Filter.{Filter}
 use Rattle.compensation.specs.Filter.{isZero, filtered}
 use Rattle.compensation.specs.Filtered.{Filtered, FilterStated}
-use Rattle.compensation.proofs.FilterCases.{at-first, no-steps, too-far}
+use Rattle.compensation.proofs.FilterCases.{at-first, no-level, no-steps, too-far, one-step}
 
 not-zero : {z : ℤ} → pos 0 <ℤ z → isZero z ≡ false
 not-zero {z = pos zero} h = absurd (h .lt)
@@ -29,61 +29,52 @@ moved held step = eq! (⟨ held ⟩ ⊕ ⟨ step ⟩ ⊝ ⟨ held ⟩) ⟨ step 
 back : (new held step : ℤ) → new -ℤ held ≡ step → new ≡ held +ℤ step
 back new held step e = eq! ⟨ new ⟩ (⟨ held ⟩ ⊕ (⟨ new ⟩ ⊝ ⟨ held ⟩)) (omega arith) ∙ ap (λ (z : ℤ). held +ℤ z) e
 
-module _ (f : Filter) (first : Bool) (held input : ℤ) where
-  no-level : f .fflv ≡ pos 0 → filtered f first held input ≡ input
-  unfolding filtered
-  no-level e = rw e (by _ first)
-    where
-      by : (x : ℤ) (a : Bool) → cond (a || true) input x ≡ input
-      by x true = refl
-      by x false = refl
+module _ (f : Filter) (first : Bool) (previous held input : ℤ) where
+  above : (previous +ℤ f .fflv) <ℤ input → ltZ (f .fflv) (pos (natAbs (input -ℤ previous))) ≡ true
+  above h = yes-lt (lt! ⟨ f .fflv ⟩ (nat (natAbs (input -ℤ previous))) (omega (arith, lt? (⟨ previous ⟩ ⊕ ⟨ f .fflv ⟩) ⟨ input ⟩ h, abs-above (⟨ input ⟩ ⊝ ⟨ previous ⟩))))
 
-  above : (held +ℤ f .fflv) <ℤ input → ltZ (f .fflv) (pos (natAbs (input -ℤ held))) ≡ true
-  above h = yes-lt (lt! ⟨ f .fflv ⟩ (nat (natAbs (input -ℤ held))) (omega (arith, lt? (⟨ held ⟩ ⊕ ⟨ f .fflv ⟩) ⟨ input ⟩ h, abs-above (⟨ input ⟩ ⊝ ⟨ held ⟩))))
+  below : (input +ℤ f .fflv) <ℤ previous → ltZ (f .fflv) (pos (natAbs (input -ℤ previous))) ≡ true
+  below h = yes-lt (lt! ⟨ f .fflv ⟩ (nat (natAbs (input -ℤ previous))) (omega (arith, lt? (⟨ input ⟩ ⊕ ⟨ f .fflv ⟩) ⟨ previous ⟩ h, abs-below (⟨ input ⟩ ⊝ ⟨ previous ⟩))))
 
-  below : (input +ℤ f .fflv) <ℤ held → ltZ (f .fflv) (pos (natAbs (input -ℤ held))) ≡ true
-  below h = yes-lt (lt! ⟨ f .fflv ⟩ (nat (natAbs (input -ℤ held))) (omega (arith, lt? (⟨ input ⟩ ⊕ ⟨ f .fflv ⟩) ⟨ held ⟩ h, abs-below (⟨ input ⟩ ⊝ ⟨ held ⟩))))
-
-  neither : input ≤ℤ (held +ℤ f .fflv) → held ≤ℤ (input +ℤ f .fflv) → pos (natAbs (input -ℤ held)) ≤ℤ f .fflv
+  neither : input ≤ℤ (previous +ℤ f .fflv) → previous ≤ℤ (input +ℤ f .fflv) → pos (natAbs (input -ℤ previous)) ≤ℤ f .fflv
   neither h k = by (f .fflv) h k
     where
-      by : (level : ℤ) → input ≤ℤ (held +ℤ level) → held ≤ℤ (input +ℤ level) → pos (natAbs (input -ℤ held)) ≤ℤ level
-      by (negsuc n) h k = absurd (omega (arith, le? ⟨ input ⟩ (⟨ held ⟩ ⊕ ⟨ negsuc n ⟩) h, le? ⟨ held ⟩ (⟨ input ⟩ ⊕ ⟨ negsuc n ⟩) k))
+      by : (level : ℤ) → input ≤ℤ (previous +ℤ level) → previous ≤ℤ (input +ℤ level) → pos (natAbs (input -ℤ previous)) ≤ℤ level
+      by (negsuc n) h k = absurd (omega (arith, le? ⟨ input ⟩ (⟨ previous ⟩ ⊕ ⟨ negsuc n ⟩) h, le? ⟨ previous ⟩ (⟨ input ⟩ ⊕ ⟨ negsuc n ⟩) k))
       by (pos n) h k =
-          let d : 1 * natAbs (input -ℤ held) ≤ n = abs! (⟨ input ⟩ ⊝ ⟨ held ⟩) 1 n (omega (arith, le? ⟨ input ⟩ (⟨ held ⟩ ⊕ nat n) h)) (omega (arith, le? ⟨ held ⟩ (⟨ input ⟩ ⊕ nat n) k)) in
-          le! (nat (natAbs (input -ℤ held))) (nat n) (omega arith)
+          let d : 1 * natAbs (input -ℤ previous) ≤ n = abs! (⟨ input ⟩ ⊝ ⟨ previous ⟩) 1 n (omega (arith, le? ⟨ input ⟩ (⟨ previous ⟩ ⊕ nat n) h)) (omega (arith, le? ⟨ previous ⟩ (⟨ input ⟩ ⊕ nat n) k)) in
+          le! (nat (natAbs (input -ℤ previous))) (nat n) (omega arith)
 
-  stepped : first ≡ false → pos 0 <ℤ f .fflv → pos 0 <ℤ f .ffst → input ≤ℤ (held +ℤ f .fflv) → held ≤ℤ (input +ℤ f .fflv) → filtered f first held input ≡ held +ℤ roundDiv (input -ℤ held) (f .ffst)
-  unfolding filtered
-  stepped a l s h k = rw (a, not-zero l, not-zero s, no-lt (neither h k)) refl
+  stepped : first ≡ false → pos 0 <ℤ f .fflv → pos 0 <ℤ f .ffst → input ≤ℤ (previous +ℤ f .fflv) → previous ≤ℤ (input +ℤ f .fflv) → filtered f first previous held input ≡ held +ℤ roundDiv (input -ℤ held) (f .ffst)
+  stepped a l s h k = one-step f first previous held input a (not-zero l) (not-zero s) (no-lt (neither h k))
 
-  is : Filtered f first held input (filtered f first held input)
+  is : Filtered f first previous held input (filtered f first previous held input)
   is = record {
-    no-level = no-level;
-    no-steps = λ e. no-steps f first held input (ap isZero e);
-    at-first = at-first f first held input;
-    far-above = λ h. too-far f first held input (above h);
-    far-below = λ h. too-far f first held input (below h);
+    no-level = λ e. no-level f first previous held input (ap isZero e);
+    no-steps = λ e. no-steps f first previous held input (ap isZero e);
+    at-first = at-first f first previous held input;
+    far-above = λ h. too-far f first previous held input (above h);
+    far-below = λ h. too-far f first previous held input (below h);
     near = λ a l s h k. subst (Nearest (input -ℤ held) (f .ffst)) (sym (ap (λ (z : ℤ). z -ℤ held) (stepped a l s h k) ∙ moved held (roundDiv (input -ℤ held) (f .ffst)))) (round-nearest (input -ℤ held) (f .ffst) s);
   }
 
   -- an FFLV or FFST that is not 0 is above it
-  only : (new : ℤ) → FilterAcceptable f → Filtered f first held input new → new ≡ filtered f first held input
+  only : (new : ℤ) → FilterAcceptable f → Filtered f first previous held input new → new ≡ filtered f first previous held input
   only new ok p = by first refl
     where
-      same : new ≡ input → filtered f first held input ≡ input → new ≡ filtered f first held input
+      same : new ≡ input → filtered f first previous held input ≡ input → new ≡ filtered f first previous held input
       same e d = e ∙ sym d
 
-      on : first ≡ false → pos 0 <ℤ f .fflv → pos 0 <ℤ f .ffst → new ≡ filtered f first held input
+      on : first ≡ false → pos 0 <ℤ f .fflv → pos 0 <ℤ f .ffst → new ≡ filtered f first previous held input
       on a l s = ⊎-elim
           (λ h. ⊎-elim
           (λ k. back new held _ (round-is (input -ℤ held) (f .ffst) (new -ℤ held) s .1 (p .near a l s h k)) ∙ sym (stepped a l s h k))
           (λ k. same (p .far-below k) (is .far-below k))
-          (≤-or-> held (input +ℤ f .fflv)))
+          (≤-or-> previous (input +ℤ f .fflv)))
           (λ h. same (p .far-above h) (is .far-above h))
-          (≤-or-> input (held +ℤ f .fflv))
+          (≤-or-> input (previous +ℤ f .fflv))
 
-      by : (b : Bool) → first ≡ b → new ≡ filtered f first held input
+      by : (b : Bool) → first ≡ b → new ≡ filtered f first previous held input
       by true a = same (p .at-first a) (is .at-first a)
       by false a = ⊎-elim
           (λ h. let e = ≤-antisym h (ok .fflv-least) in same (p .no-level e) (is .no-level e))

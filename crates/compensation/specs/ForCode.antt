@@ -71,9 +71,10 @@ valuesFrom c s v elec temp integrity = record {
 
 -- ---- what each may be handed
 
--- step 1: an accepted input, and the held value of accepted ones
-pub record FilterInput (f : Filter) (held input : ℤ) : Type 0 where
+-- step 1: an accepted input, the one before it, and the held value of accepted ones
+pub record FilterInput (f : Filter) (previous held input : ℤ) : Type 0 where
   pub acceptable : FilterAcceptable f
+  pub previous-in : previous within elecMost
   pub held-in : held within elecMost
   pub input-in : input within elecMost
 

@@ -1,4 +1,4 @@
-// Step 1, the filter (01, "The reading").
+// Step 1, the filter (01, "The reading"; Change 2).
 ghost use mathlib.Core.Path.{_≡_};
 ghost use Rattle.compensation.specs.Filter.{filtered};
 ghost use Rattle.compensation.specs.ForCode.{FilterInput};
@@ -6,13 +6,14 @@ use arithmetic::magnitude;
 use arithmetic::round_div;
 use figures::Filter;
 
-// The held value after an input, which is ELEC from there on; `first` says that no value is held yet. An FFLV of 0 needs no test of
-// its own: an input that differs at all is beyond it, and one that does not is the held value.
-pub fn filter_input(f: Filter, first: bool, held: i64, input: i64) -> i64
-    requires { ⌜ FilterInput f held input ⌝ }
-    ensures { λ r. ⌜ r ≡ filtered f first held input ⌝ }
+// The held value after an input, which is ELEC from there on; `first` says that no value is held yet. `previous` is the input before
+// this one: by it the filter is bypassed, however far the held value has fallen behind. FFLV is tested for 0 last, since that decides
+// only where the input has not moved.
+pub fn filter_input(f: Filter, first: bool, previous: i64, held: i64, input: i64) -> i64
+    requires { ⌜ FilterInput f previous held input ⌝ }
+    ensures { λ r. ⌜ r ≡ filtered f first previous held input ⌝ }
 {
-    let level = f.fflv as u64;
+    let level = f.fflv;
     let steps = f.ffst;
     if first {
         return input;
@@ -20,9 +21,11 @@ pub fn filter_input(f: Filter, first: bool, held: i64, input: i64) -> i64
     if steps == 0 {
         return input;
     }
-    let change = input - held;
-    if level < magnitude(change) {
+    if (level as u64) < magnitude(input - previous) {
         return input;
     }
-    held + round_div(change, steps)
+    if level == 0 {
+        return input;
+    }
+    held + round_div(input - held, steps)
 }

@@ -20,7 +20,9 @@ use Rattle.modbus.specs.Frame.{judged}
 use Rattle.modbus.specs.declared.frame.Frame.{Frame}
 use Rattle.modbus.specs.declared.frame.Frame.the-variants as asks
 use Rattle.modbus.specs.declared.frame.Frame.the-variants.{Read, Write, Act}
-use Rattle.state.specs.Reading.{badReading, heldAfter, stateAfterReading, stateAfterValues}
+use Rattle.state.specs.Reading.{badReading, stateAfterReading, stateAfterValues}
+use Rattle.state.specs.ForCode.{heldAfter, remembering}
+use Rattle.state.proofs.Remembered.{remembered-first}
 use borrow.Author.Tests.{ne-eqb, eqb-true}
 use native.Mathlib.Omega.{arith}
 use Rattle.in_force.specs.InForce.{copyFits, applied, setupActed, setupBy}
@@ -50,8 +52,8 @@ module _ {d : Device} (h : Reached d) (elec temp : ℤ) (integrity : ℕ) where
 
   -- a good one: what each function that is called asks, by what those before it gave
   module _ (good : badReading elec temp integrity ≡ false) where
-    pub filters : FilterInput (d .setup .figures .filter) (d .state .readings .elec) elec
-    filters = let s = reached-sound h in record { acceptable = s .setup-ok .acceptable .filter-ok; held-in = s .state-ok .readings-ok .held-in; input-in = good-elec elec temp integrity good }
+    pub filters : FilterInput (d .setup .figures .filter) (d .state .readings .input) (d .state .readings .elec) elec
+    filters = let s = reached-sound h in record { acceptable = s .setup-ok .acceptable .filter-ok; previous-in = s .state-ok .readings-ok .input-in; held-in = s .state-ok .readings-ok .held-in; input-in = good-elec elec temp integrity good }
 
     pub adjusts : TemperatureAcceptable (d .setup .figures .temperature)
     adjusts = reached-sound h .setup-ok .acceptable .temperature-ok
@@ -68,10 +70,10 @@ module _ {d : Device} (h : Reached d) (elec temp : ℤ) (integrity : ℕ) where
         scales = rw (k-is, i-is, held-is) (values-input (d .setup .figures) _ temp (reached-sound h .setup-ok .acceptable) kept)
 
         -- and what the state that is given last makes of the device
-        pub joins : {v : Values} {s : State} → v ≡ valuesFrom (d .setup .figures .cell) (d .setup .figures .system) k held temp integrity → s ≡ stateAfterValues (d .state) held temp v
+        pub joins : {v : Values} {r s : State} → v ≡ valuesFrom (d .setup .figures .cell) (d .setup .figures .system) k held temp integrity → r ≡ remembering (d .state) elec → s ≡ stateAfterValues r (record { input = r .readings .input; held = held }) temp v
             → Reading d elec temp integrity (record { number = 0; device = record { setup = d .setup; state = s } })
         unfolding stateAfterReading
-        joins v-is s-is = gives (rw (good, s-is, v-is, k-is, i-is, held-is, values-joined) refl)
+        joins v-is r-is s-is = gives (rw (good, s-is, r-is, remembered-first (d .state) elec held temp _, v-is, k-is, i-is, held-is, values-joined) refl)
 
 -- ---- a frame
 

@@ -1,17 +1,18 @@
 -- Demand 3: what each call keeps of a device beside the log, `Tracks`. The theorem `history` is in `Agrees.antt`. Assumes nothing.
 use mathlib.Core.Path.{_≡_, refl, sym, ap, ap₂, _∙_, subst}
-use mathlib.Core.Bool.{Bool, true, false, cond, not}
+use mathlib.Core.Bool.{Bool, true, false, cond}
 use mathlib.Core.List.{List, [], _∷_}
 use mathlib.Core.Option.{Option, none, some}
 use Prim.Native.Nat.{ℕ}
 use lib.Bits.{bitOr, bitAnd}
 use lib.Dec.{eqb}
 use lib.Ieee.{Float}
-use lib.IntN.{ℤ}
+use lib.IntN.{ℤ, pos}
 use Rattle.integers.specs.Within.{_within_}
 use Rattle.figures.specs.Acceptable.{Acceptable}
-use Rattle.figures.specs.declared.Calibration.{Calibration}
-use Rattle.compensation.specs.Filter.{filtered}
+use Rattle.compensation.specs.Filter.{Remembered, heldBy}
+use Rattle.compensation.specs.Filtered.{Filtered}
+use Rattle.compensation.proofs.Filtered.{filter-stated}
 use Rattle.compensation.specs.ReadingLimits.{elecMost}
 use Rattle.compensation.specs.Values.{valuesOf}
 use Rattle.compensation.specs.declared.steps.Values.{Values}
@@ -22,7 +23,8 @@ use Rattle.register.specs.Number.{FLAG, RST, SNAP, PEAKRESET}
 use Rattle.modbus.specs.Frame.{judged}
 use Rattle.modbus.specs.declared.frame.Frame.{Frame}
 use Rattle.modbus.specs.declared.frame.Frame.the-variants.{Refused, Read, Write, Act}
-use Rattle.state.specs.Reading.{badReading, peakAfter, trofAfter, readingsAfter, heldAfter, stateAfterReading, stateAfterValues}
+use Rattle.state.specs.Reading.{badReading, peakAfter, trofAfter, readingsAfter, rememberedOf, stateAfterReading, stateAfterValues}
+use Rattle.state.specs.ForCode.{heldAfter}
 use Rattle.in_force.specs.InForce.{setupBy}
 use Rattle.state.specs.Request.{reboot, flagWhole, fresh, snapped, peaksAt, peaksReset, acted, flagged, stateBy}
 use Rattle.in_force.specs.declared.Setup.{Setup}
@@ -32,8 +34,10 @@ use Rattle.converter.specs.declared.Device.{Device}
 use Rattle.converter.specs.Making.{made, setupOf, started}
 use Rattle.converter.specs.Call.{Call, reading, frame, report, obeyed, afterReading, afterCall, run}
 use Rattle.converter.specs.Log as log
-use Rattle.converter.specs.Log.{Kept, valued, Entry, peakReset, Event, Log, latest, begun, heldBy, keptOf, join, resetPeaks, logBy, note, noted, logOf}
+use Rattle.converter.specs.Log.{Kept, valued, Entry, peakReset, Event, Log, latest, begun, keptOf, join, resetPeaks, logBy, note, noted, logOf}
 use Rattle.converter.specs.History.{sysSince, Largest, Smallest, Right}
+use Rattle.converter.specs.Jumps.{FilteredAfter, EachFiltered}
+use Rattle.converter.proofs.Neighbours.{none-filtered, more-filtered, reset-filtered}
 use Rattle.converter.proofs.Events.{Latched, latch-raised, latch-kept, latch-anew}
 use Rattle.converter.proofs.Extremes.{largest-one, smallest-one, largest-more, smallest-more}
 use Rattle.converter.proofs.Made.{making-accepted, making-sound}
@@ -41,21 +45,18 @@ use Rattle.converter.proofs.Sound.{Sound, started-sound, step-sound, go
 
 -- ---- the device beside the log
 
--- the held value, where there is one
-abbrev heldOf : Readings → Option ℤ
-heldOf r = cond (r .any) (some (r .elec)) none
-
 abbrev pub Follows : Readings → List Entry → Option Kept → Type 0
 Follows r es none = (r .any ≡ false) × (sysSince es ≡ [])
 Follows r es (some k) = Right r es k
 
-pub record Tells (r : Readings) (held : Option ℤ) (es : List Entry) : Type 0 where
-  pub held-is : heldOf r ≡ held
+pub record Tells (r : Readings) (m : Option Remembered) (es : List Entry) : Type 0 where
+  pub filter-is : rememberedOf r ≡ m
   pub follows : Follows r es (latest es)
+  pub each-filtered : EachFiltered es
 
 pub record Tracks (d : Device) (l : Log) : Type 0 where
   pub setup-is : d .setup ≡ l .setup
-  pub tells : Tells (d .state .readings) (l .held) (l .readings)
+  pub tells : Tells (d .state .readings) (l .filter) (l .readings)
   pub latched : (b : ℕ) → Latched b (d .state .flag) (l .events)
   pub sound : Sound d
 
@@ -63,25 +64,34 @@ pub record Tracks (d : Device) (l : Log) : Type 0 where
 
 begins : (s s′ : Setup) (es : List Event) → s ≡ s′ → Sound (started s) → Tracks (started s) (begun s′ es)
 unfolding fresh
-begins s s′ es e h = record { setup-is = e; tells = record { held-is = refl; follows = (refl, refl) }; latched = λ b. latch-anew b reboot es; sound = h }
+begins s s′ es e h = record { setup-is = e; tells = record { filter-is = refl; follows = (refl, refl); each-filtered = none-filtered }; latched = λ b. latch-anew b reboot es; sound = h }
 
 -- ---- a reading
 
-held-same : (c : Calibration) (r : Readings) (elec : ℤ) → heldAfter c r elec ≡ heldBy c (heldOf r) elec
-unfolding filtered
-held-same c r elec = go (r .any)
-  where
-    go : (any : Bool) → filtered (c .filter) (not any) (r .elec) elec ≡ heldBy c (cond any (some (r .elec)) none) elec
-    go true = refl
-    go false = refl
+-- what is remembered is what the log keeps of the last reading
+abbrev keptAt : Option Kept → Option Remembered
+keptAt none = none
+keptAt (some j) = some (record { input = j .input; held = j .elec })
 
-joins : (r : Readings) (held : Option ℤ) (es : List Entry) → Tells r held es → (k : Kept) → Acceptable (k .figures) → (k .elec) within elecMost
-    → Tells (readingsAfter r (k .elec) (k .temp) (valued k)) (some (k .elec)) (log.joined k ∷ es)
+remembers : (r : Readings) (es : List Entry) (o : Option Kept) → Follows r es o → rememberedOf r ≡ keptAt o
+remembers r es none f = rw (f .0) refl
+remembers r es (some j) f = rw (f .present, f .input-is, f .elec-is) refl
+
+-- so step 1 of a reading goes by that one
+filtered-after : (o : Option Kept) (k : Kept) → k .elec ≡ heldBy (k .figures .filter) (keptAt o) (k .input) → FilteredAfter o k
+filtered-after none k e = e ∙ filter-stated .is (k .figures .filter) true (pos 0) (pos 0) (k .input) .at-first refl
+filtered-after (some j) k e = subst (Filtered (k .figures .filter) false (j .input) (j .elec) (k .input)) (sym e) (filter-stated .is (k .figures .filter) false (j .input) (j .elec) (k .input))
+
+joins : (r : Readings) (m : Option Remembered) (es : List Entry) → Tells r m es → (k : Kept) → k .elec ≡ heldBy (k .figures .filter) m (k .input) → Acceptable (k .figures) → (k .elec) within elecMost
+    → Tells (readingsAfter r (record { input = k .input; held = k .elec }) (k .temp) (valued k)) (some (record { input = k .input; held = k .elec })) (log.joined k ∷ es)
 unfolding readingsAfter peakAfter trofAfter
-joins r held es t k ok e = record {
-  held-is = refl;
+joins r m es t k h ok e = record {
+  filter-is = refl;
+  each-filtered = more-filtered es k (t .each-filtered)
+      (filtered-after (latest es) k (h ∙ ap (λ (x : Option Remembered). heldBy (k .figures .filter) x (k .input)) (sym (t .filter-is) ∙ remembers r es (latest es) (t .follows))));
   follows = record {
     present = refl;
+    input-is = refl;
     elec-is = refl;
     temp-is = refl;
     values-are = refl;
@@ -100,7 +110,7 @@ reads : (d : Device) (l : Log) → Tracks d l → (elec temp : ℤ) (integrity :
 unfolding stateAfterReading stateAfterValues
 reads d l t elec temp integrity g = record {
   setup-is = t .setup-is;
-  tells = subst (λ (r : Readings). Tells r (some (k .elec)) (log.joined k ∷ l .readings)) (sym same-readings) (joins (d .state .readings) (l .held) (l .readings) (t .tells) k ok within-held);
+  tells = subst (λ (r : Readings). Tells r (some (record { input = elec; held = k .elec })) (log.joined k ∷ l .readings)) (sym same-readings) (joins (d .state .readings) (l .filter) (l .readings) (t .tells) k refl ok within-held);
   latched = λ b. subst (λ (v : Values). Latched b (bitOr (d .state .flag) (v .stat)) (log.raised (valued k .stat) ∷ l .events)) (sym same-values) (latch-raised b (d .state .flag) (valued k .stat) (l .events) (t .latched b));
   sound = subst Sound (ap (λ (b : Bool). cond b d (afterReading d elec temp integrity)) g) (step-sound d (reading elec temp integrity) (t .sound));
 }
@@ -110,15 +120,14 @@ reads d l t elec temp integrity g = record {
 
     same-held : heldAfter (d .setup .figures) (d .state .readings) elec ≡ k .elec
     same-held =
-        held-same (d .setup .figures) (d .state .readings) elec
-        ∙ ap₂ (λ (s : Setup) (h : Option ℤ). heldBy (s .figures) h elec) (t .setup-is) (t .tells .held-is)
+        ap₂ (λ (s : Setup) (m : Option Remembered). heldBy (s .figures .filter) m elec) (t .setup-is) (t .tells .filter-is)
 
     same-values : valuesOf (d .setup .figures) (heldAfter (d .setup .figures) (d .state .readings) elec) temp integrity ≡ valued k
     same-values = ap₂ (λ (s : Setup) (h : ℤ). valuesOf (s .figures) h temp integrity) (t .setup-is) same-held
 
-    same-readings : readingsAfter (d .state .readings) (heldAfter (d .setup .figures) (d .state .readings) elec) temp (valuesOf (d .setup .figures) (heldAfter (d .setup .figures) (d .state .readings) elec) temp integrity)
-        ≡ readingsAfter (d .state .readings) (k .elec) temp (valued k)
-    same-readings = ap₂ (λ (h : ℤ) (v : Values). readingsAfter (d .state .readings) h temp v) same-held same-values
+    same-readings : readingsAfter (d .state .readings) (record { input = elec; held = heldAfter (d .setup .figures) (d .state .readings) elec }) temp (valuesOf (d .setup .figures) (heldAfter (d .setup .figures) (d .state .readings) elec) temp integrity)
+        ≡ readingsAfter (d .state .readings) (record { input = elec; held = k .elec }) temp (valued k)
+    same-readings = ap₂ (λ (h : ℤ) (v : Values). readingsAfter (d .state .readings) (record { input = elec; held = h }) temp v) same-held same-values
 
     ok : Acceptable (l .setup .figures)
     ok = subst (λ (s : Setup). Acceptable (s .figures)) (t .setup-is) (t .sound .setup-ok .acceptable)
@@ -135,12 +144,13 @@ reads-or-not d l t elec temp integrity false e = reads d l t elec temp integrity
 
 -- ---- a peak reset
 
-resets : (r : Readings) (held : Option ℤ) (es : List Entry) → Tells r held es → (k : Kept) → latest es ≡ some k → Tells (peaksAt r) held (peakReset ∷ es)
-resets r held es t k e = record { held-is = t .held-is; follows = rw e (right (rw e at (t .follows))) }
+resets : (r : Readings) (m : Option Remembered) (es : List Entry) → Tells r m es → (k : Kept) → latest es ≡ some k → Tells (peaksAt r) m (peakReset ∷ es)
+resets r m es t k e = record { filter-is = t .filter-is; follows = rw e (right (rw e at (t .follows))); each-filtered = reset-filtered es (t .each-filtered) }
   where
     right : Right r es k → Right (peaksAt r) (peakReset ∷ es) k
     right f = record {
       present = f .present;
+      input-is = f .input-is;
       elec-is = f .elec-is;
       temp-is = f .temp-is;
       values-are = f .values-are;
@@ -150,16 +160,16 @@ resets r held es t k e = record { held-is = t .held-is; follows = rw e (right (r
     }
 
 -- the readings alone, after a peak reset
-reset-tells : (s : State) (held : Option ℤ) (es : List Entry) → Tells (s .readings) held es → (o : Option Kept) → latest es ≡ o
-    → Tells (peaksReset s .readings) held (resetPeaks o es)
+reset-tells : (s : State) (m : Option Remembered) (es : List Entry) → Tells (s .readings) m es → (o : Option Kept) → latest es ≡ o
+    → Tells (peaksReset s .readings) m (resetPeaks o es)
 unfolding peaksReset
-reset-tells s held es t none e = subst (λ (b : Bool). Tells (cond b (record { readings = peaksAt (s .readings); flag = s .flag; snapshot = s .snapshot }) s .readings) held es) (sym (f .0)) t
+reset-tells s m es t none e = subst (λ (b : Bool). Tells (cond b (record { readings = peaksAt (s .readings); flag = s .flag; snapshot = s .snapshot }) s .readings) m es) (sym (f .0)) t
   where
     f : Follows (s .readings) es none
     f = rw e at (t .follows)
-reset-tells s held es t (some k) e =
-    subst (λ (b : Bool). Tells (cond b (record { readings = peaksAt (s .readings); flag = s .flag; snapshot = s .snapshot }) s .readings) held (peakReset ∷ es)) (sym (f .present))
-    (resets (s .readings) held es t k e)
+reset-tells s m es t (some k) e =
+    subst (λ (b : Bool). Tells (cond b (record { readings = peaksAt (s .readings); flag = s .flag; snapshot = s .snapshot }) s .readings) m (peakReset ∷ es)) (sym (f .present))
+    (resets (s .readings) m es t k e)
   where
     f : Follows (s .readings) es (some k)
     f = rw e at (t .follows)
@@ -187,27 +197,27 @@ snap-leaves s = go (s .readings .any)
     go false = (refl, refl)
 
 -- what a write leaves of state and events, by whether it is one of FLAG
-flagged-state : (s : State) (held : Option ℤ) (es : List Entry) (events : List Event) → Tells (s .readings) held es → ((b : ℕ) → Latched b (s .flag) events) → (x : Float) (flag : Bool)
+flagged-state : (s : State) (m : Option Remembered) (es : List Entry) (events : List Event) → Tells (s .readings) m es → ((b : ℕ) → Latched b (s .flag) events) → (x : Float) (flag : Bool)
     → let after : State = cond flag (record { readings = s .readings; flag = bitAnd (s .flag) (flagWhole x); snapshot = s .snapshot }) s in
-    Tells (after .readings) held es × ((b : ℕ) → Latched b (after .flag) (cond flag (log.kept (flagWhole x) ∷ events) events))
-flagged-state s held es events t l x true = (t, λ b. latch-kept b (s .flag) (flagWhole x) events (l b))
-flagged-state s held es events t l x false = (t, l)
+    Tells (after .readings) m es × ((b : ℕ) → Latched b (after .flag) (cond flag (log.kept (flagWhole x) ∷ events) events))
+flagged-state s m es events t l x true = (t, λ b. latch-kept b (s .flag) (flagWhole x) events (l b))
+flagged-state s m es events t l x false = (t, l)
 
 -- and an action other than RST
-acted-state : (s : State) (held : Option ℤ) (es : List Entry) (events : List Event) → Tells (s .readings) held es → ((b : ℕ) → Latched b (s .flag) events) → (snap reset : Bool) → (snap ≡ true → reset ≡ false)
+acted-state : (s : State) (m : Option Remembered) (es : List Entry) (events : List Event) → Tells (s .readings) m es → ((b : ℕ) → Latched b (s .flag) events) → (snap reset : Bool) → (snap ≡ true → reset ≡ false)
     → let after : State = cond snap (snapped s) (cond reset (peaksReset s) s) in
-    Tells (after .readings) held (cond reset (resetPeaks (latest es) es) es) × ((b : ℕ) → Latched b (after .flag) events)
-acted-state s held es events t l true reset n =
-    rw (n refl) (subst (λ (r : Readings). Tells r held es) (sym (snap-leaves s .0)) t, λ b. subst (λ (k : ℕ). Latched b k events) (sym (snap-leaves s .1)) (l b))
-acted-state s held es events t l false true n = (reset-tells s held es t (latest es) refl, λ b. subst (λ (k : ℕ). Latched b k events) (sym (peaks-flag s)) (l b))
-acted-state s held es events t l false false n = (t, l)
+    Tells (after .readings) m (cond reset (resetPeaks (latest es) es) es) × ((b : ℕ) → Latched b (after .flag) events)
+acted-state s m es events t l true reset n =
+    rw (n refl) (subst (λ (r : Readings). Tells r m es) (sym (snap-leaves s .0)) t, λ b. subst (λ (k : ℕ). Latched b k events) (sym (snap-leaves s .1)) (l b))
+acted-state s m es events t l false true n = (reset-tells s m es t (latest es) refl, λ b. subst (λ (k : ℕ). Latched b k events) (sym (peaks-flag s)) (l b))
+acted-state s m es events t l false false n = (t, l)
 
 acts : (d : Device) (l : Log) → Tracks d l → (s s′ : Setup) → s ≡ s′ → (rst snap reset : Bool) → (snap ≡ true → reset ≡ false)
     → let after : Device = record { setup = s; state = cond rst fresh (cond snap (snapped (d .state)) (cond reset (peaksReset (d .state)) (d .state))) } in
-    Sound after → Tracks after (cond rst (begun s′ (l .events)) (record { setup = s′; held = l .held; readings = cond reset (resetPeaks (latest (l .readings)) (l .readings)) (l .readings); events = l .events }))
+    Sound after → Tracks after (cond rst (begun s′ (l .events)) (record { setup = s′; filter = l .filter; readings = cond reset (resetPeaks (latest (l .readings)) (l .readings)) (l .readings); events = l .events }))
 acts d l t s s′ e true snap reset n h = begins s s′ (l .events) e h
 acts d l t s s′ e false snap reset n h =
-    let p = acted-state (d .state) (l .held) (l .readings) (l .events) (t .tells) (t .latched) snap reset n in
+    let p = acted-state (d .state) (l .filter) (l .readings) (l .events) (t .tells) (t .latched) snap reset n in
     record { setup-is = e; tells = p .0; latched = p .1; sound = h }
 
 obeys : (d : Device) (l : Log) → Tracks d l → (f : Frame) → Sound (obeyed d f) → Tracks (obeyed d f) (logBy l f)
@@ -215,7 +225,7 @@ unfolding setupBy stateBy flagged acted
 obeys d l t (Refused n) h = record { setup-is = t .setup-is; tells = t .tells; latched = t .latched; sound = t .sound }
 obeys d l t (Read r) h = record { setup-is = t .setup-is; tells = t .tells; latched = t .latched; sound = t .sound }
 obeys d l t (Write r x) h =
-    let p = flagged-state (d .state) (l .held) (l .readings) (l .events) (t .tells) (t .latched) x (eqb r FLAG) in
+    let p = flagged-state (d .state) (l .filter) (l .readings) (l .events) (t .tells) (t .latched) x (eqb r FLAG) in
     record { setup-is = ap (λ (s : Setup). setupBy s (Write r x)) (t .setup-is); tells = p .0; latched = p .1; sound = h }
 obeys d l t (Act r) h =
     acts d l t (setupBy (d .setup) (Act r)) (setupBy (l .setup) (Act r)) (ap (λ (s : Setup). setupBy s (Act r)) (t .setup-is)) (eqb r RST) (eqb r SNAP) (eqb r PEAKRESET)

@@ -7,6 +7,7 @@ pub mod Station
 pub mod Wire
 mod Listed
 pub mod Sound
+mod Neighbours
 pub mod History
 pub mod Reached
 pub mod Entries
@@ -15,6 +16,7 @@ pub mod Writes
 mod Snapshot
 mod Shown
 pub mod Agrees
+pub mod Jumps
 pub mod Panel
 pub mod Example
 pub mod Starred

@@ -16,7 +16,8 @@ use Rattle.register.specs.Number.{APPLY, RST}
 use Rattle.modbus.specs.declared.frame.Frame.{Frame}
 use Rattle.modbus.specs.declared.frame.Frame.the-variants.{Read, Write, Act}
 use Rattle.panel.specs.Figure.{isFigure}
-use Rattle.state.specs.Reading.{badReading, readingsAfter, heldAfter, stateAfterReading, stateAfterValues}
+use Rattle.state.specs.Reading.{badReading, readingsAfter, stateAfterReading, stateAfterValues}
+use Rattle.state.specs.ForCode.{heldAfter}
 use Rattle.in_force.specs.InForce.{withFigures, offered, copyFits, setupBy}
 use Rattle.state.specs.Request.{stateBy}
 use Rattle.in_force.specs.Waiting.{Trimmed, PutInForce, SetBack}

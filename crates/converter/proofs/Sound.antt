@@ -1,6 +1,6 @@
 -- What every device that our calls gave keeps: acceptable figures, and values that fit the filter, the arithmetic and a float. The
 -- entries need no more of a device. Assumes nothing.
-use mathlib.Core.Path.{_≡_, refl}
+use mathlib.Core.Path.{_≡_, refl, subst}
 use mathlib.Core.Bool.{Bool, true, false, not, _||_}
 use Prim.Native.Nat.{ℕ, _≤_}
 use native.Mathlib.Omega.{arith}
@@ -34,9 +34,11 @@ use Rattle.sheet.proofs.Theorems.{judged-acceptable}
 use Rattle.modbus.specs.declared.frame.Frame.{Frame}
 use Rattle.modbus.specs.declared.frame.Frame.the-variants.{Refused, Read, Write, Act}
 use Rattle.modbus.specs.Frame.{judged}
-use Rattle.state.specs.Reading.{outside, beyond, badReading, larger, smaller, peakAfter, trofAfter, readingsAfter, heldAfter, stateAfterReading, stateAfterValues}
+use Rattle.state.specs.Reading.{outside, beyond, badReading, larger, smaller, peakAfter, trofAfter, readingsAfter, stateAfterReading, stateAfterValues}
+use Rattle.state.specs.ForCode.{heldAfter}
 use Rattle.in_force.specs.InForce.{withZero, zeroSteps, withFigures, withCopy, offered, copyFits, applied, setupWritten, setupActed, setupBy}
 use Rattle.state.specs.Request.{noReadings, fresh, snapped, peaksAt, peaksReset, acted, flagged, stateBy}
+use Rattle.state.proofs.Remembered.{held-by}
 use Rattle.state.specs.Within.{valueMost, ReadingsWithin}
 use Rattle.answers.specs.Within.{StateWithin}
 use Rattle.in_force.specs.declared.Setup.{Setup}
@@ -47,6 +49,7 @@ use Rattle.converter.specs.Making.{started}
 use Rattle.converter.specs.Call.{Call, reading, frame, report, afterReading, afterCall}
 
 pub record ReadingsSound (r : Readings) : Type 0 where
+  pub input-in : (r .input) within elecMost
   pub held-in : (r .elec) within elecMost
   pub values-in : ReadingsWithin r
 
@@ -98,7 +101,7 @@ good-temp elec temp integrity e =
     not-beyond tempMost temp (or-left (beyond tempMost temp) (ltb 1 integrity) (or-right (beyond elecMost elec) (beyond tempMost temp || ltb 1 integrity) e))
 
 pub held-within : (c : Calibration) (r : Readings) (elec : ℤ) → Acceptable c → (r .elec) within elecMost → elec within elecMost → (heldAfter c r elec) within elecMost
-held-within c r elec ok h e = filtered-within (c .filter) (not (r .any)) (r .elec) elec (ok .filter-ok) h e
+held-within c r elec ok h e = subst (λ (z : ℤ). z within elecMost) (held-by (c .filter) r elec) (filtered-within (c .filter) (not (r .any)) (r .input) (r .elec) elec (ok .filter-ok) h e)
 
 larger-within : {n : ℕ} (a b : ℤ) → a within n → b within n → (larger a b) within n
 unfolding larger
@@ -108,13 +111,14 @@ smaller-within : {n : ℕ} (a b : ℤ) → a within n → b within n → (smalle
 unfolding smaller
 smaller-within {n} a b h k = pick (ltZ b a) b a (λ z. z within n) (λ e. k) (λ e. h)
 
-join-sound : (c : Calibration) (r : Readings) (elec temp : ℤ) (integrity : ℕ) → Acceptable c → ReadingsSound r → elec within elecMost → temp within tempMost
-    → ReadingsSound (readingsAfter r elec temp (valuesOf c elec temp integrity))
+join-sound : (c : Calibration) (r : Readings) (input elec temp : ℤ) (integrity : ℕ) → Acceptable c → ReadingsSound r → input within elecMost → elec within elecMost → temp within tempMost
+    → ReadingsSound (readingsAfter r (record { input = input; held = elec }) temp (valuesOf c elec temp integrity))
 unfolding readingsAfter peakAfter trofAfter valuesOf
-join-sound c r elec temp integrity ok h e t =
+join-sound c r input elec temp integrity ok h i e t =
     let m = magnitudes c elec temp ok e in
     let w = h .values-in in
     record {
+      input-in = i;
       held-in = e;
       values-in = record {
         elec-in = within-more e (lit≤ tt);
@@ -133,7 +137,7 @@ unfolding stateAfterReading stateAfterValues
 read-sound d elec temp integrity h e = record {
   setup-ok = h .setup-ok;
   state-ok = record {
-    readings-ok = join-sound (d .setup .figures) (d .state .readings) _ temp integrity (h .setup-ok .acceptable) (h .state-ok .readings-ok)
+    readings-ok = join-sound (d .setup .figures) (d .state .readings) elec _ temp integrity (h .setup-ok .acceptable) (h .state-ok .readings-ok) (good-elec elec temp integrity e)
         (held-within (d .setup .figures) (d .state .readings) elec (h .setup-ok .acceptable) (h .state-ok .readings-ok .held-in) (good-elec elec temp integrity e)) (good-temp elec temp integrity e);
     sysn-in = h .state-ok .sysn-in;
   };
@@ -201,7 +205,7 @@ none-within = record { elec-in = nought; temp-in = nought; craw-in = nought; cel
 
 fresh-sound : StateSound fresh
 unfolding fresh
-fresh-sound = record { readings-ok = record { held-in = nought; values-in = none-within }; sysn-in = nought }
+fresh-sound = record { readings-ok = record { input-in = nought; held-in = nought; values-in = none-within }; sysn-in = nought }
 
 peaks-within : (r : Readings) → ReadingsWithin r → ReadingsWithin (peaksAt r)
 peaks-within r w = record {
@@ -223,7 +227,7 @@ reset-sound : (s : State) → StateSound s → StateSound (peaksReset s)
 unfolding peaksReset
 reset-sound s h =
     pick (s .readings .any) _ s StateSound
-    (λ e. record { readings-ok = record { held-in = h .readings-ok .held-in; values-in = peaks-within (s .readings) (h .readings-ok .values-in) }; sysn-in = h .sysn-in })
+    (λ e. record { readings-ok = record { input-in = h .readings-ok .input-in; held-in = h .readings-ok .held-in; values-in = peaks-within (s .readings) (h .readings-ok .values-in) }; sysn-in = h .sysn-in })
     (λ e. h)
 
 state-sound : (s : State) (f : Frame) → StateSound s → StateSound (stateBy s f)

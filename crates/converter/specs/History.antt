@@ -58,7 +58,8 @@ pub record Smallest (p : ℤ) (xs : List ℤ) : Type 0 where
 
 pub record Right (r : Readings) (entries : List Entry) (k : Kept) : Type 0 where
   pub present : r .any ≡ true
-  -- its input, and its values by steps 1 to 5
+  -- its input, unfiltered and filtered, and its values by steps 1 to 5
+  pub input-is : r .input ≡ k .input
   pub elec-is : r .elec ≡ k .elec
   pub temp-is : r .temp ≡ k .temp
   pub values-are : r .values ≡ valued k

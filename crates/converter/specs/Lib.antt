@@ -4,6 +4,7 @@ pub mod Reached
 pub mod Wire
 pub mod Log
 pub mod Snapshot
+pub mod Jumps
 pub mod History
 pub mod Starred
 pub mod Station

@@ -1,14 +1,15 @@
 -- The log (01, "The log"): "fed the making's sheet and station and the calls' arguments, nothing from device or answers. It keeps
 -- the figures in force (the sheet's, SZ as last written), the held value (the filtered input), the readings with the peak resets
--- among them, and each raising and clearing of a FLAG bit."
-use mathlib.Core.Bool.{true, false, cond}
+-- among them, and each raising and clearing of a FLAG bit." With the held value it keeps "the previous accepted unfiltered input"
+-- (Change 2).
+use mathlib.Core.Bool.{cond}
 use mathlib.Core.List.{List, [], _∷_}
 use mathlib.Core.Option.{Option, none, some}
 use Prim.Native.Nat.{ℕ}
 use lib.Dec.{eqb}
-use lib.IntN.{ℤ, pos}
+use lib.IntN.{ℤ}
 use Rattle.figures.specs.declared.Calibration.{Calibration}
-use Rattle.compensation.specs.Filter.{filtered}
+use Rattle.compensation.specs.Filter.{Remembered, remembered}
 use Rattle.compensation.specs.Values.{valuesOf}
 use Rattle.compensation.specs.declared.steps.Values.{Values}
 use Rattle.register.specs.Number.{FLAG, RST, PEAKRESET}
@@ -22,9 +23,10 @@ use Rattle.in_force.specs.declared.Setup.{Setup}
 use Rattle.converter.specs.Making.{setupOf}
 use Rattle.converter.specs.Call.{Call, reading, frame, report}
 
--- a reading that joined: the figures in force at it, its filtered input, TEMP and integrity byte
+-- a reading that joined: the figures in force at it, its input, unfiltered and filtered, TEMP and integrity byte
 pub record Kept : Type 0 where
   pub figures : Calibration
+  pub input : ℤ
   pub elec : ℤ
   pub temp : ℤ
   pub integrity : ℕ
@@ -45,7 +47,7 @@ pub data Event : Type 0 where
 -- both lists have the newest first
 pub record Log : Type 0 where
   pub setup : Setup
-  pub held : Option ℤ
+  pub filter : Option Remembered
   pub readings : List Entry
   pub events : List Event
 
@@ -55,20 +57,18 @@ latest [] = none
 latest (joined k ∷ es) = some k
 latest (peakReset ∷ es) = latest es
 
--- "start and RST drop readings, peak resets and held value"; all bits are cleared, then REBOOT is raised
+-- "start and RST drop readings, peak resets and held value", and "RST forgets" the previous input (Change 2); all bits are cleared, then
+-- REBOOT is raised
 abbrev pub begun : Setup → List Event → Log
-begun setup events = record { setup = setup; held = none; readings = []; events = raised reboot ∷ kept 0 ∷ events }
-
--- step 1: without a held value, this is the first reading
-abbrev pub heldBy : Calibration → Option ℤ → ℤ → ℤ
-heldBy c none elec = filtered (c .filter) true (pos 0) elec
-heldBy c (some held) elec = filtered (c .filter) false held elec
+begun setup events = record { setup = setup; filter = none; readings = []; events = raised reboot ∷ kept 0 ∷ events }
 
 abbrev pub keptOf : Log → ℤ → ℤ → ℕ → Kept
-keptOf l elec temp integrity = record { figures = l .setup .figures; elec = heldBy (l .setup .figures) (l .held) elec; temp = temp; integrity = integrity }
+keptOf l input temp integrity =
+    let m : Remembered = remembered (l .setup .figures .filter) (l .filter) input in
+    record { figures = l .setup .figures; input = m .input; elec = m .held; temp = temp; integrity = integrity }
 
 abbrev pub join : Log → Kept → Log
-join l k = record { setup = l .setup; held = some (k .elec); readings = joined k ∷ l .readings; events = raised (valued k .stat) ∷ l .events }
+join l k = record { setup = l .setup; filter = some (record { input = k .input; held = k .elec }); readings = joined k ∷ l .readings; events = raised (valued k .stat) ∷ l .events }
 
 -- "10 judged by the log": no peak reset before the first reading
 abbrev pub resetPeaks : Option Kept → List Entry → List Entry
@@ -82,14 +82,14 @@ logBy l (Refused n) = l
 logBy l (Read r) = l
 logBy l (Write r x) = record {
   setup = setupBy (l .setup) (Write r x);
-  held = l .held;
+  filter = l .filter;
   readings = l .readings;
   events = cond (eqb r FLAG) (kept (flagWhole x) ∷ l .events) (l .events);
 }
 logBy l (Act r) =
     let setup = setupBy (l .setup) (Act r) in
     cond (eqb r RST) (begun setup (l .events))
-    (record { setup = setup; held = l .held; readings = cond (eqb r PEAKRESET) (resetPeaks (latest (l .readings)) (l .readings)) (l .readings); events = l .events })
+    (record { setup = setup; filter = l .filter; readings = cond (eqb r PEAKRESET) (resetPeaks (latest (l .readings)) (l .readings)) (l .readings); events = l .events })
 
 abbrev pub note : Log → Call → Log
 note l (reading elec temp integrity) = cond (badReading elec temp integrity) l (join l (keptOf l elec temp integrity))

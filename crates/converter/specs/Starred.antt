@@ -57,7 +57,8 @@ pub data Case : Type 0 where
   inDefault : (elec raw held : ℤ) (over : ℕ) → Case
   -- `gainOf20` with g, at ELEC 6,553,600: raw cell
   adjusted : (g raw : ℤ) → Case
-  -- held 0, input 10, `fourSteps`: by FFLV, the held value
+  -- held 0, input 10, `fourSteps`, after the input 0 ("The filter cases in 01 start from input 0 and hold unchanged.", Change 2): by FFLV,
+  -- the held value
   filteredBy : (fflv held : ℤ) → Case
   -- steps, and the pattern of their float
   goesOut : (steps : ℤ) (pattern : ℕ) → Case
@@ -84,7 +85,7 @@ worked (atPoints t _) = atPoints t (interpolated 1 twoPoints t)
 worked (inDefault elec _ _ _) =
     inDefault elec (rawCell defaultSheet elec (pos 0)) (craw defaultSheet elec (pos 0)) (bitAt crawor (stat defaultSheet elec (pos 0) 0))
 worked (adjusted g _) = adjusted g (rawCell (gainOf20 g) (pos 6553600) (pos 0))
-worked (filteredBy fflv _) = filteredBy fflv (filtered (fourSteps fflv) false (pos 0) (pos 10))
+worked (filteredBy fflv _) = filteredBy fflv (filtered (fourSteps fflv) false (pos 0) (pos 0) (pos 10))
 worked (goesOut steps _) = goesOut steps (toBits binary32 (stepFloat steps))
 worked (sheetJudged clk _) = sheetJudged clk (sheetNumber (sheetBytes (apart clk)))
 worked (becomes pattern _ _ _) =

@@ -86,7 +86,8 @@ impl Device {
             temp,
             integrity,
         );
-        let state = state::take(before, held, temp, values);
+        let remembering = state::remember(before, elec);
+        let state = state::take(remembering, held, temp, values);
         let mut device = self;
         device.state = state;
         Outcome { number: 0, device }

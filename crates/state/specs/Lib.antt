@@ -3,3 +3,4 @@ pub mod BadReading
 pub mod Request
 pub mod Report
 pub mod Within
+pub mod ForCode

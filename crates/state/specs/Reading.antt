@@ -1,5 +1,6 @@
 -- A reading (01, "The reading"): when it is turned down, and what it makes of a device's state.
-use mathlib.Core.Bool.{Bool, true, cond, not, _||_}
+use mathlib.Core.Bool.{Bool, true, cond, _||_}
+use mathlib.Core.Option.{Option, none, some}
 use Prim.Native.Nat.{ℕ}
 use lib.Bits.{bitOr}
 use lib.Dec.{ltb}
@@ -7,7 +8,7 @@ use lib.IntN.{ℤ, pos, negℤ}
 use lib.Signed.{ltZ}
 use Rattle.figures.specs.declared.Calibration.{Calibration}
 use Rattle.compensation.specs.ReadingLimits.{elecMost, tempMost}
-use Rattle.compensation.specs.Filter.{filtered}
+use Rattle.compensation.specs.Filter.{Remembered, remembered}
 use Rattle.compensation.specs.Values.{valuesOf}
 use Rattle.compensation.specs.declared.steps.Values.{Values}
 use Rattle.state.specs.declared.Readings.{Readings}
@@ -38,19 +39,19 @@ peakAfter r v = cond (r .any) (larger (r .peak) (v .sys)) (v .sys)
 unfoldable pub trofAfter : Readings → Values → ℤ
 trofAfter r v = cond (r .any) (smaller (r .trof) (v .sys)) (v .sys)
 
-unfoldable pub readingsAfter : Readings → ℤ → ℤ → Values → Readings
-readingsAfter r elec temp v = record { any = true; elec = elec; temp = temp; values = v; peak = peakAfter r v; trof = trofAfter r v }
+unfoldable pub readingsAfter : Readings → Remembered → ℤ → Values → Readings
+readingsAfter r m temp v = record { any = true; input = m .input; elec = m .held; temp = temp; values = v; peak = peakAfter r v; trof = trofAfter r v }
 
--- 1. the held value; without a reading this is the first
-abbrev pub heldAfter : Calibration → Readings → ℤ → ℤ
-heldAfter c r elec = filtered (c .filter) (not (r .any)) (r .elec) elec
+-- 1. what the readings remember for it
+abbrev pub rememberedOf : Readings → Option Remembered
+rememberedOf r = cond (r .any) (some (record { input = r .input; held = r .elec })) none
 
 -- 6, by the values of the reading; "A reading raises its STAT bits in FLAG"
-unfoldable pub stateAfterValues : State → ℤ → ℤ → Values → State
-stateAfterValues s elec temp v = record { readings = readingsAfter (s .readings) elec temp v; flag = bitOr (s .flag) (v .stat); snapshot = s .snapshot }
+unfoldable pub stateAfterValues : State → Remembered → ℤ → Values → State
+stateAfterValues s m temp v = record { readings = readingsAfter (s .readings) m temp v; flag = bitOr (s .flag) (v .stat); snapshot = s .snapshot }
 
 -- 1 to 6, by the figures c in force
 unfoldable pub stateAfterReading : Calibration → State → ℤ → ℤ → ℕ → State
-stateAfterReading c s elec temp integrity =
-    let held : ℤ = heldAfter c (s .readings) elec in
-    stateAfterValues s held temp (valuesOf c held temp integrity)
+stateAfterReading c s input temp integrity =
+    let m : Remembered = remembered (c .filter) (rememberedOf (s .readings)) input in
+    stateAfterValues s m temp (valuesOf c (m .held) temp integrity)

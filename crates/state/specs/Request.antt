@@ -21,7 +21,7 @@ abbrev pub noValues : Values
 noValues = record { craw = pos 0; cell = pos 0; sraw = pos 0; sys = pos 0; stat = 0 }
 
 abbrev pub noReadings : Readings
-noReadings = record { any = false; elec = pos 0; temp = pos 0; values = noValues; peak = pos 0; trof = pos 0 }
+noReadings = record { any = false; input = pos 0; elec = pos 0; temp = pos 0; values = noValues; peak = pos 0; trof = pos 0 }
 
 abbrev pub noSnapshot : Snapshot
 noSnapshot = record { taken = false; sysn = pos 0 }
@@ -41,7 +41,7 @@ snapped s =
     s
 
 abbrev pub peaksAt : Readings → Readings
-peaksAt r = record { any = r .any; elec = r .elec; temp = r .temp; values = r .values; peak = r .values .sys; trof = r .values .sys }
+peaksAt r = record { any = r .any; input = r .input; elec = r .elec; temp = r .temp; values = r .values; peak = r .values .sys; trof = r .values .sys }
 
 unfoldable pub peaksReset : State → State
 peaksReset s = cond (s .readings .any) (record { readings = peaksAt (s .readings); flag = s .flag; snapshot = s .snapshot }) s

@@ -1,9 +1,9 @@
-// A reading joins (01, "The reading"): its filtered input and values, PEAK and TROF, and its STAT bits in FLAG.
+// A reading joins (01, "The reading"; Change 2): its input, unfiltered and filtered, its values, PEAK and TROF, and its STAT bits in FLAG.
 ghost use mathlib.Core.Path.{_≡_};
-ghost use mathlib.Core.Bool.{not};
-ghost use Rattle.compensation.specs.Filter.{filtered};
+ghost use Rattle.compensation.specs.Filter.{heldBy};
 ghost use Rattle.compensation.specs.ForCode.{FilterInput};
-ghost use Rattle.state.specs.Reading.{outside, badReading, larger, smaller, peakAfter, trofAfter, readingsAfter, stateAfterValues};
+ghost use Rattle.state.specs.ForCode.{remembering};
+ghost use Rattle.state.specs.Reading.{outside, badReading, larger, smaller, peakAfter, trofAfter, readingsAfter, rememberedOf, stateAfterValues};
 use crate::Readings;
 use crate::State;
 use compensation::Values;
@@ -77,12 +77,13 @@ fn trof_after(r: Readings, v: Values) -> i64
 }
 
 fn join(r: Readings, elec: i64, temp: i64, v: Values) -> Readings
-    ensures { λ n. ⌜ n ≡ readingsAfter r elec temp v ⌝ }
+    ensures { λ n. ⌜ n ≡ readingsAfter r (record { input = r .input; held = elec }) temp v ⌝ }
 {
     let peak = peak_after(r, v);
     let trof = trof_after(r, v);
     Readings {
         any: true,
+        input: r.input,
         elec,
         temp,
         values: v,
@@ -92,16 +93,27 @@ fn join(r: Readings, elec: i64, temp: i64, v: Values) -> Readings
 }
 
 // Step 1 of a reading that is not a bad one, after the readings before it: the held value.
-pub fn held_after(filter: Filter, before: Readings, elec: i64) -> i64
-    requires { ⌜ FilterInput filter (before .elec) elec ⌝ }
-    ensures { λ r. ⌜ r ≡ filtered filter (not (before .any)) (before .elec) elec ⌝ }
+pub fn held_after(filter: Filter, before: Readings, input: i64) -> i64
+    requires { ⌜ FilterInput filter (before .input) (before .elec) input ⌝ }
+    ensures { λ r. ⌜ r ≡ heldBy filter (rememberedOf before) input ⌝ }
 {
-    compensation::filter_input(filter, !before.any, before.elec, elec)
+    compensation::filter_input(filter, !before.any, before.input, before.elec, input)
 }
 
-// What a reading makes of the state, by the held value, TEMP and its values.
+// The input of a reading, before its values are known.
+pub fn remember(state: State, input: i64) -> State
+    ensures { λ n. ⌜ n ≡ remembering state input ⌝ }
+{
+    let mut readings = state.readings;
+    readings.input = input;
+    let mut next = state;
+    next.readings = readings;
+    next
+}
+
+// What a reading makes of the state that remembers its input, by the held value, TEMP and its values.
 pub fn take(state: State, elec: i64, temp: i64, values: Values) -> State
-    ensures { λ n. ⌜ n ≡ stateAfterValues state elec temp values ⌝ }
+    ensures { λ n. ⌜ n ≡ stateAfterValues state (record { input = state .readings .input; held = elec }) temp values ⌝ }
 {
     let readings = join(state.readings, elec, temp, values);
     let mut next = state;

@@ -6,6 +6,7 @@ mod requests;
 use compensation::Values;
 pub use joining::bad_reading;
 pub use joining::held_after;
+pub use joining::remember;
 pub use joining::take;
 pub use reporting::Report;
 pub use reporting::Reported;
@@ -13,11 +14,12 @@ pub use reporting::report_of;
 pub use requests::fresh;
 pub use requests::state_by;
 
-// What the readings since the start or RST left: whether there is one; of the last, ELEC as the filter holds it, TEMP and its
-// values; PEAK and TROF.
+// What the readings since the start or RST left: whether there is one; of the last, its input before the filter, ELEC as the filter
+// holds it, TEMP and its values; PEAK and TROF.
 #[repr(C)]
 pub struct Readings {
     pub any: bool,
+    pub input: i64,
     pub elec: i64,
     pub temp: i64,
     pub values: Values,

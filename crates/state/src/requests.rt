@@ -20,6 +20,7 @@ pub fn fresh() -> State
     };
     let readings = Readings {
         any: false,
+        input: 0,
         elec: 0,
         temp: 0,
         values,

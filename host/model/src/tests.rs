@@ -1,4 +1,4 @@
-//! The edges of paper 01, and the rules of Change 1 of paper 02.
+//! The edges of paper 01, and the rules of Changes 1 and 2 of paper 02.
 
 use crate::bus::crc16;
 use crate::device::{filter, interpolate, round_div, scale, REBOOT};
@@ -31,7 +31,11 @@ fn rounding_and_interpolation() {
 #[test]
 fn filter_steps() {
     let f = |fflv| Figures { fflv, ffst: 4, ..Figures::default() };
-    assert_eq!([filter(&f(10), 0, 10), filter(&f(9), 0, 10), filter(&f(0), 0, 10)], [3, 10, 10]);
+    assert_eq!([filter(&f(10), 0, 0, 10), filter(&f(9), 0, 0, 10), filter(&f(0), 0, 0, 10)], [3, 10, 10]);
+    // Held 0, the previous input 100: by more than 10 from 100 it jumps, else it steps from 0.
+    let after = |input| filter(&f(10), 100, 0, input);
+    assert_eq!([109, 110, 111].map(after), [27, 28, 111]);
+    assert_eq!([91, 90, 89, 4].map(after), [23, 23, 89, 4]);
 }
 
 #[test]
@@ -248,7 +252,7 @@ fn panel_in_force() {
     assert_eq!(d, Device { figures: due, ..before });
     // A point past the count stays in the copy, and is 0 in force.
     assert_eq!((ask(&mut d, 53), d.figures.linearity[2].clx), ((0, 7.0), 0));
-    // The filter, now on, goes on from the held value: 100, then 60, (60 - 20) x 1.5 - 1.
+    // The filter, now on, goes on from the last reading: held 100, then 60, (60 - 20) x 1.5 - 1.
     d.take(20 << 16, 0, 0).unwrap();
     assert_eq!((ask(&mut d, 10), ask(&mut d, 16), ask(&mut d, 24)), ((0, 59.0), (0, 60.0), (0, 100.0)));
     // RST: the figures in force since the last such write, and 0 past the count.
@@ -285,4 +289,57 @@ fn panel_unfit_copy() {
     for (register, value) in [(50, 1.0), (50, 8.0), (50, 2.5), (110, 6.0), (110, f32::NAN), (93, 0.5), (93, 1001.0)] {
         assert_eq!(put(&mut d, register, value), 16, "{register} {value}");
     }
+}
+
+/// "A slow filling now jumps when the held value has fallen behind": by Change 2 it does not.
+#[test]
+fn slow_filling() {
+    let mut d = made(&Figures { fflv: 2 << 16, ffst: 10, ..Figures::standard() });
+    let mut held = 0;
+    for input in (0..60).map(|percent| percent << 16) {
+        d.take(input, 0, 0).unwrap();
+        held += round_div(input - held, 10);
+        assert_eq!((d.last.unwrap().input, d.last.unwrap().elec), (input, held));
+    }
+    // Nearly 9 % behind, where 1 % a reading is a tenth of the way; a test against the held value jumps at 2 %.
+    assert!((8 << 16..9 << 16).contains(&((59 << 16) - held)));
+    // A jump is one between samples: from 59 % to 61 % and a step.
+    let (mut to, mut past) = (d, d);
+    to.take(61 << 16, 0, 0).unwrap();
+    past.take((61 << 16) + 1, 0, 0).unwrap();
+    assert_eq!(to.last.unwrap().elec, held + round_div((61 << 16) - held, 10));
+    assert_eq!(past.last.unwrap().elec, (61 << 16) + 1);
+    // Back at the held value it is a jump too, where the test against it would step.
+    d.take(held + 5, 0, 0).unwrap();
+    assert_eq!(d.last.unwrap().elec, held + 5);
+}
+
+/// "the previous accepted unfiltered input, which the device has to remember, and RST forgets it".
+#[test]
+fn previous_input() {
+    fn taken(d: &mut Device, percent: i64) -> (i64, i64) {
+        d.take(percent << 16, 0, 0).unwrap();
+        (d.last.unwrap().input >> 16, d.last.unwrap().elec >> 16)
+    }
+    let filter_by = |d: &mut Device, level| [(92, level), (93, 10.0), (99, 0.0)].map(|(r, value)| put(d, r, value));
+    // It is remembered with the filter off, by a reading that jumps, and by one that steps.
+    let mut d = made(&Figures::standard());
+    assert_eq!([0, 50].map(|percent| taken(&mut d, percent)), [(0, 0), (50, 50)]);
+    assert_eq!(filter_by(&mut d, 30.0), [0; 3]);
+    assert_eq!([80, 120, 140].map(|percent| taken(&mut d, percent)), [(80, 53), (120, 120), (140, 122)]);
+    assert_eq!(taken(&mut d, 110), (110, 120));
+    // 99, refused readings and every other write but RST leave it: the next one is 9 from 110, though 120 is held.
+    assert_eq!(filter_by(&mut d, 9.0), [0; 3]);
+    let before = d.last;
+    assert_eq!([d.take(19_660_801, 0, 0), d.take(0, 0, 2)], [Err(Refusal::BadReading); 2]);
+    assert_eq!([(22, 1.0), (14, 0.0), (103, 0.0), (44, 200.0)].map(|(r, value)| put(&mut d, r, value)), [0; 4]);
+    assert_eq!((put(&mut d, 99, 0.0), put(&mut d, 44, -150.0), d.last), (17, 0, before));
+    assert_eq!(put(&mut d, 104, 0.0), 0);
+    assert_eq!(taken(&mut d, 101), (101, 118));
+    // Switched off, and on again with no reading between: as if never off.
+    assert_eq!([filter_by(&mut d, 0.0), filter_by(&mut d, 9.0)], [[0; 3]; 2]);
+    assert_eq!(taken(&mut d, 92), (92, 116));
+    // RST forgets it: the next reading is a first one.
+    assert_eq!((put(&mut d, 100, 0.0), d.last), (0, None));
+    assert_eq!([97, 100].map(|percent| taken(&mut d, percent)), [(97, 97), (100, 97)]);
 }

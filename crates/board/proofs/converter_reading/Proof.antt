@@ -1,6 +1,7 @@
 -- `board::converter_reading` meets its contract: a walk of its MIR, by hand. A bad reading is refused before the record is
--- looked at. Otherwise the borrow is opened and stays open over the calls: each is handed the parts of the figures and of the
--- state that it takes, the state that `take` gives is stored, and the borrow is closed at the device with it.
+-- looked at. Otherwise the borrow is opened and stays open over the calls: the readings are copied and the input is stored, each call is
+-- handed the parts of the figures and of the state that it takes, the state that `take` gives is stored, and the borrow is closed at the
+-- device with it.
 -- All that the proof knows of the six functions that are called is that they meet their contracts. Assumes nothing.
 use Rattle.figures.proofs.Cell.Laws as X′
 use Rattle.figures.proofs.Temperature.Laws as T′
@@ -11,7 +12,8 @@ use Rattle.compensation.specs.ForCode.{inputAt, cellValuesAt, valuesFrom}
 use Rattle.compensation.proofs.steps.Input.Laws as P′
 use Rattle.compensation.proofs.steps.CellValues.Laws as K′
 use Rattle.compensation.proofs.steps.Values.Laws as E′
-use Rattle.state.specs.Reading.{badReading, heldAfter, stateAfterValues}
+use Rattle.state.specs.Reading.{badReading, stateAfterValues}
+use Rattle.state.specs.ForCode.{heldAfter}
 use Rattle.state.proofs.Readings.Laws as G′
 use Rattle.state.proofs.State.Laws as S′
 use Rattle.converter.specs.Reached.{Reached, Reading}
@@ -28,9 +30,9 @@ use Rattle.board.proofs.Callees.{bad-reading, held-after, input-at, cel
 use Rattle.walks.proofs.Branch.{branches-on, skips-to}
 use Rattle.walks.proofs.Entered.{walk-entered}
 use Rattle.walks.proofs.Locals.{frees-all}
-use Rattle.board.proofs.Kept.{device, number, mach-state, mach-cell, mach-temperature, mach-linearity, mach-system, mach-filter, mach-readings, restate, restated, five-is, readings-is, state-is}
+use Rattle.board.proofs.Kept.{device, IsDevice, number, mach-state, mach-cell, mach-temperature, mach-linearity, mach-system, mach-filter, mach-readings, reinput, reinputted, restate, restated, five-is, readings-is, state-is}
 use Rattle.walks.proofs.Record.{opens-record, closes-record, copies}
-use Rattle.board.proofs.Record.{state-at, filter-in, readings-in, temperature-in, cell-in, linearity-in, system-in, state-in, stores-state}
+use Rattle.board.proofs.Record.{state-at, readings-at, input-field-at, filter-in, readings-in, temperature-in, cell-in, linearity-in, system-in, state-in, stores-input, stores-state}
 use Rattle.board.proofs.converter_reading.Key.{name as #board·converter-reading}
 use Rattle.board.proofs.converter_reading as f
 use Rattle.board.proofs.converter_reading.Statement as stated
@@ -47,6 +49,13 @@ module _ {M : Type 1} (𝓤 : URA M) (H : Heap 𝓤) (A : Atoms 𝓤) (W : Given
     (z-is : Is i64 z (vint w64 (ofZ w64 z) ∷ [])) (t-is : Is i64 t (vint w64 (ofZ w64 t) ∷ [])) (n-fits : n < 2 ^ 8) (reached : Reached h) where
   abbrev x : RefT Device × (ℤ × (ℤ × (ℕ × Unit {0})))
   x = (record { ptr = (b, o); name = γ; now = h }, (z, (t, (n, tt))))
+
+  -- with its input stored
+  abbrev g : Device
+  g = reinput h z
+
+  stands : IsDevice h → IsDevice g
+  stands was = reinputted h was z z-is
 
   abbrev numbers : List Val × (List Val × (List Val × Unit {0}))
   numbers = (vint w64 (ofZ w64 z) ∷ [], (vint w64 (ofZ w64 t) ∷ [], (vint w8 n ∷ [], tt)))
@@ -69,43 +78,46 @@ module _ {M : Type 1} (𝓤 : URA M) (H : Heap 𝓤) (A : Atoms 𝓤) (W : Given
     walk : ent 𝓤 (onEntry 𝓤 H A f.signature (κ, tt) (q, tt) x at) (WpFn 𝓤 H C Λ code.function (vptr b o ∷ vint w64 (ofZ w64 z) ∷ vint w64 (ofZ w64 t) ∷ vint w8 n ∷ []) Post)
     walk =
         qed W ((‵ (flft κ q) ⊛ ‵ ftrue) ∷ ‵ (owns (MutRef (named 0) κ D.the-row ∷ i64 ∷ i64 ∷ u8 ∷ []) x at) ∷ []) ∵ enter ! C Λ code.function (vptr b o ∷ vint w64 (ofZ w64 z) ∷ vint w64 (ofZ w64 t) ∷ vint w8 n ∷ []) _ $
-        alloc1 ! (λ l₀. alloc1 ! (λ l₁. alloc1 ! (λ l₂. alloc1 ! (λ l₃. alloc1 ! (λ l₄. alloc1 ! (λ l₅. alloc1 ! {τ = P′.mir} (λ l₆. alloc1 ! {τ = K′.mir} (λ l₇. alloc1 ! {τ = E′.mir} (λ l₈. alloc1 ! (λ l₉. alloc1 ! {τ = I′.mir} (λ l₁₀. alloc1 ! {τ = G′.mir}
+        alloc1 ! (λ l₀. alloc1 ! (λ l₁. alloc1 ! (λ l₂. alloc1 ! (λ l₃. alloc1 ! (λ l₄. alloc1 ! {τ = G′.mir} (λ l₅. alloc1 ! (λ l₆. alloc1 ! {τ = P′.mir} (λ l₇. alloc1 ! {τ = K′.mir} (λ l₈. alloc1 ! {τ = E′.mir} (λ l₉. alloc1 ! (λ l₁₀. alloc1 ! {τ = I′.mir}
         (λ l₁₁. alloc1 ! {τ = T′.mir} (λ l₁₂. alloc1 ! {τ = X′.mir} (λ l₁₃. alloc1 ! {τ = L′.mir} (λ l₁₄. alloc1 ! {τ = Y′.mir} (λ l₁₅. alloc1 ! {τ = S′.mir} (λ l₁₆. alloc1 ! {τ = S′.mir} (λ l₁₇. alloc0 ! $ params1 ! $
         pass1 ! (init ! 32 refl (tt, tt)) $ pass1 ! (init ! 30 refl (sint-lawful 𝓤 H A W w64 .typed z _ z-is .0)) $ pass1 ! (init ! 28 refl (sint-lawful 𝓤 H A W w64 .typed t _ t-is .0)) $ pass1 ! (init ! 26 refl (tt, record { fits = n-fits })) $ pass0 ! $
         move ! (37 ∷ []) $ fsplit ! $ fsplit3 ! $ drop ! $ move ! (2 ∷ []) $ drop ! $ move ! (38 ∷ []) $ split ! $ move ! (2 ∷ 3 ∷ 0 ∷ []) $
         -- [obs; the borrow; its token; true; _17; …; _1; …; room for _0; …]
         calls-plain ! fm bad-reading (known-of .0) (tt, tt, tt, (z, (t, (n, tt))), numbers) tt (id⊢ 𝓤 _) (z-is, (t-is, ((refl, n-fits), tt))) (id⊢ 𝓤 _) (λ r. r ≡ badReading z t n) (λ r e. id⊢ 𝓤 _)
-        (local ! 39 refl (local ! 39 refl (local ! 39 refl (no-more !)))) 20 refl refl (λ v bad bad-is is. first ! $ branches-on ! (look ! 20 refl) is bad-is
+        (local ! 39 refl (local ! 39 refl (local ! 39 refl (no-more !)))) 18 refl refl (λ v bad bad-is is. first ! $ branches-on ! (look ! 18 refl) is bad-is
         (λ held. assigns ! (of-opd ! (literal ! 9 tt tt)) (from ! (stop !)) (init ! 38 refl (tt, record { fits = lit< tt })) $
-        returns-within ! Post refl (look ! 38 refl) $ frees-all ! 4 (some _ ∷ some _ ∷ some _ ∷ some _ ∷ some _ ∷ none ∷ none ∷ none ∷ none ∷ some _ ∷ []) refl $
+        returns-within ! Post refl (look ! 38 refl) $ frees-all ! 4 (some _ ∷ some _ ∷ some _ ∷ some _ ∷ some _ ∷ none ∷ none ∷ none ∷ none ∷ none ∷ some _ ∷ []) refl $
         keep ! (0 ∷ 1 ∷ 2 ∷ []) $ by ! (exits (record { number = 9; device = h }) (lit< tt) (refuses reached z t n held)))
         (λ good. skips-to ! t-3 Post $ opens-record device ! tt h (λ was.
         -- [the record's cell; the open borrow; obs; auth; true; _17; …]
-        copies ! 0 refl (filter-in h ! was) (look ! 37 refl) (init ! 19 refl) $ copies ! 0 refl (readings-in h ! was) (look ! 37 refl) (init ! 17 refl) $
+        copies ! 0 refl (readings-in h ! was) (look ! 37 refl) (init ! 29 refl) $
+        assigns ! (of-opd ! (load ! (from ! (stop !)) (look ! 35 refl))) (from ! (hop ! (look ! 37 refl) (fld ! state-at (fld ! readings-at (fld ! input-field-at (stop !)))))) (stores-input ! 0 h refl was z z-is) $
+        -- the record is that of `g` from here on
+        copies ! 0 refl (filter-in g ! (stands was)) (look ! 37 refl) (init ! 17 refl) $
         calls-plain ! fm held-after (known-of .1 .0) (tt, tt, tt, (h .setup .figures .filter, (h .state .readings, (z, tt))), (mach-filter (h .setup .figures .filter) ∷ [], (mach-readings (h .state .readings) ∷ [], (number z ∷ [], tt)))) tt (id⊢ 𝓤 _)
         (five-is h was .1 .1 .1 .1 .0, (readings-is h was, (z-is, tt))) (factI 𝓤 _ (emp 𝓤) (filters reached z t n good)) (λ k. k ≡ heldAfter (h .setup .figures) (h .state .readings) z) (λ k e. id⊢ 𝓤 _)
-        (local ! 40 refl (local ! 40 refl (local ! 40 refl (no-more !)))) 29 refl refl (λ vk k k-is k-fits.
-        copies ! 0 refl (temperature-in h ! was) (look ! 37 refl) (init ! 15 refl) $
+        (local ! 40 refl (local ! 40 refl (local ! 40 refl (no-more !)))) 27 refl refl (λ vk k k-is k-fits.
+        copies ! 0 refl (temperature-in g ! (stands was)) (look ! 37 refl) (init ! 15 refl) $
         calls-plain ! fm input-at (known-of .1 .1 .0) (tt, tt, tt, (h .setup .figures .temperature, (k, (t, tt))), (mach-temperature (h .setup .figures .temperature) ∷ [], (vk ∷ [], (number t ∷ [], tt)))) tt (id⊢ 𝓤 _)
         (five-is h was .1 .0, (k-fits, (t-is, tt))) (factI 𝓤 _ (emp 𝓤) (adjusts reached z t n good)) (λ i. i ≡ inputAt (h .setup .figures .temperature) k t) (λ i e. id⊢ 𝓤 _)
-        (local ! 40 refl (local ! 40 refl (local ! 40 refl (no-more !)))) 27 refl refl (λ vi i i-is i-fits.
-        copies ! 0 refl (cell-in h ! was) (look ! 37 refl) (init ! 13 refl) $ copies ! 0 refl (linearity-in h ! was) (look ! 37 refl) (init ! 11 refl) $
+        (local ! 40 refl (local ! 40 refl (local ! 40 refl (no-more !)))) 25 refl refl (λ vi i i-is i-fits.
+        copies ! 0 refl (cell-in g ! (stands was)) (look ! 37 refl) (init ! 13 refl) $ copies ! 0 refl (linearity-in g ! (stands was)) (look ! 37 refl) (init ! 11 refl) $
         calls-plain ! fm cell-values (known-of .1 .1 .1 .0) (tt, tt, tt, (h .setup .figures .cell, (h .setup .figures .linearity, (i, tt))), (mach-cell (h .setup .figures .cell) ∷ [], (mach-linearity (h .setup .figures .linearity) ∷ [], (vi ∷ [], tt)))) tt (id⊢ 𝓤 _)
         (five-is h was .0, (five-is h was .1 .1 .0, (i-fits, tt))) (factI 𝓤 _ (emp 𝓤) (corrects reached z t n good k-is i-is)) (λ c. c ≡ cellValuesAt (h .setup .figures .cell) (h .setup .figures .linearity) i) (λ c e. id⊢ 𝓤 _)
-        (local ! 40 refl (local ! 40 refl (local ! 40 refl (no-more !)))) 25 refl refl (λ vc c c-is c-fits.
-        copies ! 0 refl (cell-in h ! was) (look ! 37 refl) (store ! 13 refl) $ copies ! 0 refl (system-in h ! was) (look ! 37 refl) (init ! 9 refl) $
+        (local ! 40 refl (local ! 40 refl (local ! 40 refl (no-more !)))) 23 refl refl (λ vc c c-is c-fits.
+        copies ! 0 refl (cell-in g ! (stands was)) (look ! 37 refl) (store ! 13 refl) $ copies ! 0 refl (system-in g ! (stands was)) (look ! 37 refl) (init ! 9 refl) $
         calls-plain ! fm values-from (known-of .1 .1 .1 .1 .0)
         (tt, tt, tt, (h .setup .figures .cell, (h .setup .figures .system, (c, (k, (t, (n, tt)))))), (mach-cell (h .setup .figures .cell) ∷ [], (mach-system (h .setup .figures .system) ∷ [], (vc ∷ [], (vk ∷ [], (number t ∷ [], (vint w8 n ∷ [], tt))))))) tt (id⊢ 𝓤 _)
         (five-is h was .0, (five-is h was .1 .1 .1 .0, (c-fits, (k-fits, (t-is, ((refl, n-fits), tt)))))) (factI 𝓤 _ (emp 𝓤) (scales reached z t n good k-is i-is c-is)) (λ w. w ≡ valuesFrom (h .setup .figures .cell) (h .setup .figures .system) c k t n) (λ w e. id⊢ 𝓤 _)
-        (local ! 40 refl (local ! 40 refl (local ! 40 refl (local ! 40 refl (local ! 40 refl (local ! 40 refl (no-more !))))))) 23 refl refl (λ vw w w-is w-fits.
-        copies ! 0 refl (state-in h ! was) (look ! 37 refl) (init ! 5 refl) $
-        calls-plain ! fm take (known-of .1 .1 .1 .1 .1 .0) (tt, tt, tt, (h .state, (k, (t, (w, tt)))), (mach-state (h .state) ∷ [], (vk ∷ [], (number t ∷ [], (vw ∷ [], tt))))) tt (id⊢ 𝓤 _)
-        (state-is h was, (k-fits, (t-is, (w-fits, tt)))) (id⊢ 𝓤 _) (λ r. r ≡ stateAfterValues (h .state) k t w) (λ r e. id⊢ 𝓤 _)
+        (local ! 40 refl (local ! 40 refl (local ! 40 refl (local ! 40 refl (local ! 40 refl (local ! 40 refl (no-more !))))))) 21 refl refl (λ vw w w-is w-fits.
+        copies ! 0 refl (state-in g ! (stands was)) (look ! 37 refl) (init ! 5 refl) $
+        calls-plain ! fm take (known-of .1 .1 .1 .1 .1 .0) (tt, tt, tt, (g .state, (k, (t, (w, tt)))), (mach-state (g .state) ∷ [], (vk ∷ [], (number t ∷ [], (vw ∷ [], tt))))) tt (id⊢ 𝓤 _)
+        (state-is g (stands was), (k-fits, (t-is, (w-fits, tt)))) (id⊢ 𝓤 _) (λ r. r ≡ stateAfterValues (g .state) (record { input = z; held = k }) t w) (λ r e. id⊢ 𝓤 _)
         (local ! 40 refl (local ! 40 refl (local ! 40 refl (local ! 40 refl (no-more !))))) 7 refl refl (λ vr r r-is state.
-        assigns ! (of-opd ! (load ! (from ! (stop !)) (look ! 7 refl))) (from ! (hop ! (look ! 37 refl) (fld ! state-at (stop !)))) (stores-state ! 0 h refl was r state) $
-        assigns ! (of-opd ! (literal ! 0 tt tt)) (from ! (stop !)) (init ! 39 refl (tt, record { fits = lit< tt })) $ closes-record device ! tt (restate h r) (restated h was r state) $
+        assigns ! (of-opd ! (load ! (from ! (stop !)) (look ! 7 refl))) (from ! (hop ! (look ! 37 refl) (fld ! state-at (stop !)))) (stores-state ! 0 g refl (stands was) r state) $
+        assigns ! (of-opd ! (literal ! 0 tt tt)) (from ! (stop !)) (init ! 39 refl (tt, record { fits = lit< tt })) $ closes-record device ! tt (restate g r) (restated g (stands was) r state) $
         returns ! (look ! 38 refl) $ frees-all ! 4 (some _ ∷ some _ ∷ some _ ∷ some _ ∷ some _ ∷ some _ ∷ some _ ∷ some _ ∷ some _ ∷ some _ ∷ some _ ∷ some _ ∷ some _ ∷ some _ ∷ some _ ∷ some _ ∷ some _ ∷ some _ ∷ []) refl $
-        keep ! (0 ∷ 1 ∷ 2 ∷ []) $ by ! (exits (record { number = 0; device = restate h r }) (lit< tt) (joins reached z t n good k-is i-is c-is w-is r-is))))))))))))))))))))))))))))
+        keep ! (0 ∷ 1 ∷ 2 ∷ []) $ by ! (exits (record { number = 0; device = restate h r }) (lit< tt) (joins reached z t n good k-is i-is c-is w-is refl r-is))))))))))))))))))))))))))))
 
 module _ {M : Type 1} (𝓤 : URA M) (H : Heap 𝓤) (A : Atoms 𝓤) (W : Given 𝓤 H A) (mem : Memory → SProp 𝓤) (run : Routine → Fun 𝓤) where
   walks : (C : Calls 𝓤 H) (Λ : Loops 𝓤 H) → FmC 𝓤 H (W .laws) C → AllKnown 𝓤 H A mem run C callees → Walks 𝓤 H A f.ended stayed (WpFn 𝓤 H C Λ code.function) (f.clauses 𝓤 H A mem run)

@@ -8,7 +8,8 @@ use mir.Val.{toZ, ofZ}
 use mir.ValLaws.{toZ-ofZ}
 use Rattle.integers.proofs.Machine.{held}
 use Rattle.compensation.specs.ForCode.{inputAt}
-use Rattle.state.specs.Reading.{badReading, heldAfter}
+use Rattle.state.specs.Reading.{badReading}
+use Rattle.state.specs.ForCode.{heldAfter}
 use Rattle.converter.specs.declared.Device.{Device}
 use Rattle.converter.proofs.Entries.{refuses, filters, adjusts, corrects, scales, joins}
 use Rattle.converter.proofs.Device.reading.Statement.{statement}
@@ -66,12 +67,13 @@ values-from-requires c κs =
 
 returns-2 : tie.Need-returns-2
 returns-2 c =
-    let v = c .before in
+    let r = c .before in
+    let v = r .before in
     let i = v .before .before in
     let s = start-of (i .before) in
     joins (s .pre) (s .args .elec) (s .args .temp) (s .args .integrity) (good (else-of (i .before))) (held-is (i .before)) (input-is i) (v .before .cell-values .ensures)
-    (rw (toZ-ofZ w64 _ (s .fits .temp)) at (v .values-from .ensures)) (rw (toZ-ofZ w64 _ (s .fits .temp)) at (c .take .ensures))
+    (rw (toZ-ofZ w64 _ (s .fits .temp)) at (v .values-from .ensures)) (rw (toZ-ofZ w64 _ (s .fits .elec)) at (r .remember .ensures)) (rw (toZ-ofZ w64 _ (s .fits .temp)) at (c .take .ensures))
 
 pub reading-spec : {M : Type 1} → statement M
 reading-spec =
-    tie.close (tie.spec (λ c κs. search needs) returns held-after-requires input-at-requires cell-values-requires values-from-requires (λ c κs. search needs) returns-2)
+    tie.close (tie.spec (λ c κs. search needs) returns held-after-requires input-at-requires cell-values-requires values-from-requires (λ c κs. search needs) (λ c κs. search needs) returns-2)

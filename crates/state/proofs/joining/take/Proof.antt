@@ -11,7 +11,7 @@ use Rattle.state.specs.Reading.{readingsAfter, stateAfterValues}
 use Rattle.state.proofs.joining.take.Statement.{statement}
 use Rattle.state.proofs.joining.take.Tie as tie
 
-built : (s : State) (elec temp : ℤ) (v : Values) {r : Readings} → r ≡ readingsAfter (s .readings) elec temp v → record { readings = r; flag = bitOr (s .flag) (v .stat); snapshot = s .snapshot } ≡ stateAfterValues s elec temp v
+built : (s : State) (elec temp : ℤ) (v : Values) {r : Readings} → r ≡ readingsAfter (s .readings) (record { input = s .readings .input; held = elec }) temp v → record { readings = r; flag = bitOr (s .flag) (v .stat); snapshot = s .snapshot } ≡ stateAfterValues s (record { input = s .readings .input; held = elec }) temp v
 unfolding stateAfterValues
 built s elec temp v e = rw e
 

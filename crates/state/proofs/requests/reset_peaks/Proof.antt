@@ -12,7 +12,7 @@ use Rattle.state.proofs.requests.reset_peaks.Tie as tie
 
 reset : (s : State) {z y : ℤ} → s .readings .any ≡ true → z ≡ s .readings .values .sys → y ≡ s .readings .values .sys
     → record {
-      readings = record { any = s .readings .any; elec = s .readings .elec; temp = s .readings .temp; values = s .readings .values; peak = z; trof = y };
+      readings = record { any = s .readings .any; input = s .readings .input; elec = s .readings .elec; temp = s .readings .temp; values = s .readings .values; peak = z; trof = y };
       flag = s .flag;
       snapshot = s .snapshot;
     } ≡ peaksReset s
