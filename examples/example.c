@@ -1,6 +1,6 @@
 /* Make a device of the default sheet, take readings, and answer frames: what a board does all day; then load bad sheets
- * while it runs, which disturbs nothing; then calibrate it from the panel. In one report the four values differ, so
- * that a header with their order changed does not pass. */
+ * while it runs, which disturbs nothing; then calibrate it from the panel; then fill it slowly with the filter on. In
+ * one report the four values differ, so that a header with their order changed does not pass. */
 #include "converter.h"
 #include <stdio.h>
 #include <string.h>
@@ -151,6 +151,21 @@ static void calibrate_from_panel(converter_device *device)
     print_reply("read CGAI", read_register(device, CONVERTER_REGISTER_CGAI, reply, sizeof reply), reply);
 }
 
+/* Change 2 of paper 02. By the default sheet SYS is the filter's held value. FFLV 3 % and FFST 2: an input that is at
+ * most 3 % from the one before is smoothed, however far the held value has fallen behind. The last one is a jump. */
+static void fill_slowly(converter_device *device)
+{
+    static const int percent[] = {0, 2, 4, 6, 8, 11, 15};
+    uint8_t reply[16];
+    write_register(device, CONVERTER_REGISTER_FFLV, 3.0f, reply, sizeof reply);
+    write_register(device, CONVERTER_REGISTER_FFST, 2.0f, reply, sizeof reply);
+    print_reply("write APPLY", write_register(device, CONVERTER_REGISTER_APPLY, 0.0f, reply, sizeof reply), reply);
+    for (size_t i = 0; i < sizeof percent / sizeof *percent; i++) {
+        converter_reading(device, percent[i] * 65536, 1310720, 0);
+        printf("reading %d %%: SYS %.4f\n", percent[i], converter_report(device).report.sys);
+    }
+}
+
 int main(void)
 {
     static converter_device device;
@@ -192,5 +207,10 @@ int main(void)
     print_report(converter_report(&device));
 
     calibrate_from_panel(&device);
+
+    /* The default sheet again: CGAI 1. */
+    put_figure(sheet, 9, 268435456);
+    printf("good sheet: %u\n", load(&device, sheet, length, 52));
+    fill_slowly(&device);
     return 0;
 }

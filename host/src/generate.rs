@@ -5,7 +5,7 @@ mod panel;
 use crate::{read_frame, sealed, write_frame, APPLY, REGISTERS, RST};
 use model::panel::Figure;
 use model::sheet::{self, most, LONGEST};
-use model::{Device, Figures};
+use model::{Device, Figures, Reading};
 
 /// xorshift64*.
 pub struct Rng(u64);
@@ -117,7 +117,7 @@ pub fn figures(rng: &mut Rng) -> Figures {
         f.sz = rng.near(most::SYSTEM);
     }
     if !rng.one_in(3) {
-        f.fflv = rng.near(most::FFLV).abs();
+        f.fflv = rng.near(most::FFLV).abs() >> rng.pick(&[0, 0, 4, 8]);
         f.ffst = [0, 1, 2, 3, 4, 7, 1_000, rng.range(0, 1_000)][rng.below(8) as usize];
     }
     f
@@ -288,15 +288,29 @@ fn reading(rng: &mut Rng, d: &Device) -> Call {
     };
     let aimed = (f.cofs + point.cto + by_gain(cell, f.cgai)).saturating_add(rng.range(-3, 3));
     let elec = match (rng.below(8), &d.last) {
+        (_, Some(last)) if last.input != last.elec && !rng.one_in(3) => filling(rng, f.fflv, last),
         (0, _) => rng.pick(&[-7_864_320, 7_864_320]) + rng.range(-1, 1),
         (1 | 2, _) => aimed.clamp(-19_660_800, 19_660_800),
-        (3, Some(last)) => last.elec + rng.pick(&[f.fflv, -f.fflv]) + rng.range(-1, 1),
+        (3, Some(last)) => rng.pick(&[last.elec, last.input]) + rng.pick(&[f.fflv, -f.fflv]) + rng.range(-1, 1),
         (4, Some(last)) => last.elec + rng.pick(&[1, -1, 3]) * (f.ffst / 2) + rng.range(-1, 1),
         (5, Some(last)) => last.elec + (rng.near(19_660_800) >> rng.below(20)),
         (6, _) if rng.one_in(10) => rng.pick(&[-19_660_801, 19_660_801, i64::MIN, i64::MAX]),
         _ => rng.near(19_660_800),
     };
     Call::Reading(elec, temp, if rng.one_in(12) { rng.pick(&[1, 1, 1, 2, 255]) } else { 0 })
+}
+
+/// The next input of a slow filling, in which the held value falls further behind; now and then a jump ends it.
+fn filling(rng: &mut Rng, fflv: i64, last: &Reading) -> i64 {
+    let by = if rng.one_in(2) { rng.range(0, fflv) } else { fflv + rng.range(-1, 1) };
+    let away = if last.input > last.elec { by } else { -by };
+    let input = last.input + away;
+    // At the end of the range it turns round.
+    if input.abs() > 19_660_800 {
+        last.input - away
+    } else {
+        input
+    }
 }
 
 /// A register for a frame: those that act on a write more often, RST less often.

@@ -91,6 +91,8 @@ impl Lines {
 #[cfg(test)]
 mod tests {
     use super::*;
+    use crate::generate::sheet;
+    use model::{Device, Figures};
 
     #[test]
     fn profiles_stay_within_what_a_reading_takes() {
@@ -102,6 +104,25 @@ mod tests {
         assert_eq!(Profile::Fill.reading(175), (50 * STEPS, 18 * STEPS + 350 * STEPS / 1_000, 0));
         assert_eq!(Profile::Fill.reading(312).0, 155 * STEPS);
         assert_eq!(Profile::Fill.reading(600), (0, 18 * STEPS + 1_200 * STEPS / 1_000, 0));
+    }
+
+    /// FFLV 2 %, FFST 10: the filling, 0.4 % a reading, is smoothed 3.6 % behind, and only the knock jumps.
+    #[test]
+    fn the_filling_is_smooth_and_the_knock_jumps() {
+        let figures = Figures { fflv: 2 * STEPS, ffst: 10, ..Figures::standard() };
+        let mut device = Device::new(&sheet(&figures), 1).expect("a device");
+        let (mut held, mut jumps, mut furthest) = (0, Vec::new(), 0);
+        for tick in 0..600 {
+            let (elec, temp, integrity) = Profile::Fill.reading(tick);
+            device.take(elec, temp, integrity).expect("taken");
+            let shown = device.last.expect("a reading").elec;
+            if shown == elec && shown != held {
+                jumps.push(tick);
+            }
+            (held, furthest) = (shown, furthest.max(elec - shown));
+        }
+        assert_eq!(jumps, [311, 312, 313, 314]);
+        assert_eq!(10 * furthest / STEPS, 36);
     }
 
     #[test]

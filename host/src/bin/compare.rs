@@ -7,6 +7,7 @@
 use host::generate::{Call, Calls};
 use host::tool::{run, Failure};
 use host::{panel_registers, read_frame, Converter, Other, APPLY, REGISTERS, WITH_ARCHIVE};
+use model::Figures;
 use std::process::ExitCode;
 
 /// Bytes kept on either side of a lent buffer.
@@ -95,6 +96,8 @@ fn reads(station: u8, registers: impl Iterator<Item = u16>) -> Vec<Vec<u8>> {
 struct Seen {
     numbers: [u64; 256],
     applied: u64,
+    /// Readings with the filter on: whether further than FFLV from the previous input, and from the held value.
+    filtered: [[u64; 2]; 2],
     flags: u16,
     /// Readings without start or RST: so far, and the most.
     readings: u64,
@@ -102,12 +105,17 @@ struct Seen {
 }
 
 impl Seen {
-    fn add(&mut self, call: &Call, number: u8, device: &model::Device) {
+    fn add(&mut self, call: &Call, number: u8, before: &model::Device, device: &model::Device) {
         self.numbers[usize::from(number)] += 1;
         self.flags |= device.flag;
         let accepted = number == 0 && matches!(call, Call::Reading(..));
         self.readings = if device.last.is_none() { 0 } else { self.readings + u64::from(accepted) };
         self.longest = self.longest.max(self.readings);
+        if let (true, Some(last), Call::Reading(input, ..)) = (accepted, &before.last, call) {
+            let Figures { fflv, ffst, .. } = before.figures;
+            let far = |from: i64| usize::from((input - from).abs() > fflv);
+            self.filtered[far(last.input)][far(last.elec)] += u64::from(fflv > 0 && ffst > 0);
+        }
         let to_apply = |frame: &[u8]| frame[1] == 16 && frame[2..4] == (2 * APPLY).to_be_bytes();
         self.applied += u64::from(number == 0 && matches!(call, Call::Frame(frame, _) if to_apply(frame)));
     }
@@ -116,6 +124,9 @@ impl Seen {
         let by_number: Vec<String> = (0..=17).map(|n| format!("{n}: {}", self.numbers[n])).collect();
         println!("calls by number  {}", by_number.join(", "));
         println!("the copy put in force {} times", self.applied);
+        let [[smooth, behind], [back, jumps]] = self.filtered;
+        println!("filter on: {} readings smoothed, {behind} of them far from the held value", smooth + behind);
+        println!("           {} jumped, {back} of them to near the held value", jumps + back);
         println!("FLAG bits seen {}; longest run of readings without start or RST {}", self.flags, self.longest);
     }
 }
@@ -124,11 +135,12 @@ impl Seen {
 fn compare(calls: u64, seed: u64) -> bool {
     let (mut generator, mut differences) = (Calls::new(seed), 0);
     let (mut model, mut other) = (model::Device::default(), Other::default());
-    let mut seen = Seen { numbers: [0; 256], applied: 0, flags: 0, readings: 0, longest: 0 };
+    let mut seen = Seen { numbers: [0; 256], applied: 0, filtered: [[0; 2]; 2], flags: 0, readings: 0, longest: 0 };
     let (mut base, mut panel) = (Vec::new(), Vec::new());
 
     for i in 0..calls {
         let (call, fill) = generator.next(&model, i / 4_096 % 4 == 3);
+        let before = model;
         let expected = perform(&mut model, &call, fill);
         let found = perform(&mut other, &call, fill);
         if matches!(call, Call::Make(..)) {
@@ -150,7 +162,7 @@ fn compare(calls: u64, seed: u64) -> bool {
             // The model is the reference: go on with a new device.
             (model, other) = Default::default();
         }
-        seen.add(&call, expected.number, &model);
+        seen.add(&call, expected.number, &before, &model);
     }
 
     seen.print();
