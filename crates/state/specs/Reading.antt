@@ -42,7 +42,7 @@ trofAfter r v = cond (r .any) (smaller (r .trof) (v .sys)) (v .sys)
 unfoldable pub readingsAfter : Readings → Remembered → ℤ → Values → Readings
 readingsAfter r m temp v = record { any = true; input = m .input; elec = m .held; temp = temp; values = v; peak = peakAfter r v; trof = trofAfter r v }
 
--- 1. what the readings remember for it
+-- what the readings remember for step 1: nothing before the first
 abbrev pub rememberedOf : Readings → Option Remembered
 rememberedOf r = cond (r .any) (some (record { input = r .input; held = r .elec })) none
 
