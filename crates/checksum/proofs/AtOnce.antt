@@ -1,9 +1,9 @@
--- Shifts at once: the closed forms that `sixteen_shifts` and `sixty_four_shifts` compute. They are linear, as the shifts are, and agree with
--- them on the powers of two, by computation. Assumes nothing.
-use mathlib.Core.Path.{_≡_, sym, ap₂, _∙_}
+-- Shifts at once: the closed form that `sixty_four_shifts` computes. It is linear, as the shifts are, and agrees with them on the powers of
+-- two, by computation. Assumes nothing.
+use mathlib.Core.Path.{_≡_}
 use Prim.Native.Nat.{ℕ, _*_, _/_, _%_, _^_, _<_}
 use native.Mathlib.Omega.{arith}
-use lib.Bits.{bitXor, xor-lt, xor-shifted}
+use lib.Bits.{bitXor, xor-lt}
 use lib.Count.{onesIn}
 use Rattle.checksum.specs.Checksum.{shifted, shifts}
 use Rattle.checksum.proofs.Linear.{Linear, same, then, _xor_, down, low, up, odd, agreed}
@@ -11,28 +11,6 @@ use Rattle.checksum.proofs.Shifts.{shifts-xor}
 
 shifts-linear : (k : ℕ) → Linear (shifts k)
 shifts-linear k = record { of-xor = shifts-xor k }
-
--- ---- sixteen
-
-unfoldable pub sixteen : ℕ → ℕ
-sixteen x = bitXor (bitXor (bitXor (x / 4) (x / 4 * 2)) (x % 4 * 0x5000)) (onesIn 16 x % 2 * 0xC001)
-
--- two bits are not carried by 5
-at-top : Linear (λ x. x % 4 * 0x5000)
-at-top = record { of-xor = λ x y. apart (bitXor x y) ∙ (then (low 2) (up 14) xor then (low 2) (up 12)) .of-xor x y ∙ sym (ap₂ bitXor (apart x) (apart y)) }
-  where
-    apart : (x : ℕ) → x % 4 * 0x5000 ≡ bitXor (x % 4 * 2 ^ 14) (x % 4 * 2 ^ 12)
-    apart x = omega (arith, xor-shifted (x % 4) 14 (x % 4 * 2 ^ 12) (omega arith))
-
-sixteen-linear : Linear sixteen
-unfolding sixteen
-sixteen-linear = down 2 xor then (down 2) (up 1) xor at-top xor odd 16 0xC001
-
-pub sixteen-is : (x : ℕ) → x < 65536 → sixteen x ≡ shifts 16 x
-unfolding sixteen shifts shifted onesIn
-sixteen-is = agreed sixteen-linear (shifts-linear 16) 16 tt
-
--- ---- sixty-four
 
 -- what `sixty_four_shifts` has on the way
 abbrev pub upper : ℕ → ℕ

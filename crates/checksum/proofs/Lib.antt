@@ -3,4 +3,4 @@ pub mod Shifts
 pub mod Linear
 pub mod AtOnce
 pub mod Bytes
-pub mod Words
+pub mod Few

@@ -3,10 +3,11 @@
 use mathlib.Core.Path.{_≡_, refl, sym, ap, ap₂, _∙_}
 use mathlib.Core.Bool.{cond}
 use Prim.Native.Nat.{ℕ, zero, suc, _+_, _*_, _/_, _%_, _^_, _<_}
-use native.Mathlib.Nat.{add-comm, zero-add, suc-add, mul-one, div-add-mod', div-eq-of-lt}
+use native.Mathlib.Nat.{add-comm, zero-add, suc-add, mul-one, div-add-mod', div-eq-of-lt, mod-eq-of-lt, mod-lt}
 use native.Mathlib.Omega.{arith}
 use lib.Bits.{bitXor, xor-zero-r, xor-comm, xor-lt, xor-shr, xor-mod, xor-shifted, shifted-half, shifted-even}
 use lib.Dec.{eqb}
+use lib.Pow.{pow-pos}
 use Rattle.checksum.specs.Checksum.{shifted, shifts, withByte}
 use Rattle.integers.proofs.Bits.{xor-assoc}
 use Rattle.checksum.proofs.Xor.{xor-swap, xor-digits, xor-zero}
@@ -52,13 +53,16 @@ shifts-add (suc j) k x = ap (λ (n : ℕ). shifts n x) (suc-add j k) ∙ shifts-
 pub shifts-up : (j k y : ℕ) → shifts (j + k) (y * 2 ^ j) ≡ shifts k y
 shifts-up j k y = shifts-add j k (y * 2 ^ j) ∙ ap (shifts k) (shifts-above j y)
 
--- one byte: the high one moves down, beside what eight shifts make of the low one
-pub by-byte : (c b : ℕ) → b < 256 → bitXor (shifts 16 (bitXor c b % 256 * 256)) (c / 256) ≡ shifts 8 (bitXor c b)
-by-byte c b h =
-    let x = bitXor c b in
-    let high : x / 256 ≡ c / 256 = xor-shr c b 8 ∙ ap (bitXor (c / 256)) (div-eq-of-lt h) ∙ xor-zero-r (c / 256) in
-    let whole : bitXor (x / 256 * 2 ^ 8) (x % 256) ≡ x = xor-shifted (x / 256) 8 (x % 256) (omega arith) ∙ div-add-mod' x 256 in
-    xor-comm (shifts 16 (x % 256 * 256)) (c / 256) ∙ ap₂ bitXor (sym high) (shifts-up 8 8 (x % 256)) ∙ sym (shifts-beside 8 (x / 256) (x % 256)) ∙ ap (shifts 8) whole
+-- what is above the k bits of w only moves down, beside what the shifts make of the rest
+pub beside : (k c w : ℕ) → w < 2 ^ k → bitXor (shifts k (bitXor w (c % 2 ^ k))) (c / 2 ^ k) ≡ shifts k (bitXor c w)
+beside k c w h =
+    let x = bitXor c w in
+    let high : x / 2 ^ k ≡ c / 2 ^ k = xor-shr c w k ∙ ap (bitXor (c / 2 ^ k)) (div-eq-of-lt h) ∙ xor-zero-r (c / 2 ^ k) in
+    let low : x % 2 ^ k ≡ bitXor w (c % 2 ^ k) = xor-mod c w k ∙ ap (bitXor (c % 2 ^ k)) (mod-eq-of-lt h) ∙ xor-comm (c % 2 ^ k) w in
+    let whole : bitXor (x / 2 ^ k * 2 ^ k) (x % 2 ^ k) ≡ x = xor-shifted (x / 2 ^ k) k (x % 2 ^ k) (mod-lt x (pow-pos k)) ∙ div-add-mod' x (2 ^ k) in
+    xor-comm (shifts k (bitXor w (c % 2 ^ k))) (c / 2 ^ k)
+    ∙ ap₂ (λ (p q : ℕ). bitXor p (shifts k q)) (sym high) (sym low)
+    ∙ sym (shifts-beside k (x / 2 ^ k) (x % 2 ^ k)) ∙ ap (shifts k) whole
 
 -- what is taken in after a byte stands above it
 above-byte : (c b h : ℕ) → b < 256 → bitXor (h * 256) (bitXor c b) ≡ bitXor c (b + h * 256)

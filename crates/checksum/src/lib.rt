@@ -1,11 +1,9 @@
 // Modbus CRC-16 (01, "The bus"; the rule is the Modbus standard's).
 ghost use mathlib.Core.Path.{_≡_};
-ghost use Prim.Native.Nat.{_+_, _≤_, _<_};
+ghost use Prim.Native.Nat.{_+_, _-_, _≤_, _<_};
 ghost use lib.ListN.{length, take, drop};
-ghost use Rattle.integers.specs.Bytes.{wordBytes};
 ghost use Rattle.checksum.specs.Checksum.{shifts, checksumFrom, checksumOf};
-use integers::bytes::eight_at;
-use integers::bytes::four_at;
+use integers::bytes::four_to_eight_at;
 
 // Sixty-four shifts at once, with no table: modulo X^15 + X + 1, X^30 is X^2 + 1 and X^15 is X + 1, so
 // the low bits are folded 28, 14 and 9 places up, and an odd number of ones turns over C001.
@@ -21,49 +19,14 @@ fn sixty_four_shifts(x: u64) -> u16
     ((remainder * 2) as u16) ^ (odd * 0xc001)
 }
 
-// Sixteen shifts at once: each bit comes out one and two places lower, the lowest two at the top, and
-// an odd number of ones turns over C001.
-fn sixteen_shifts(x: u16) -> u16
-    ensures { λ r. ⌜ r ≡ shifts 16 x ⌝ }
+// Four to eight bytes from the place i on, taken in at once as one number: its shifts are sixty-four of
+// it as many places higher as they are fewer.
+fn take_number(sum: u16, bytes: &[u8], i: usize, count: usize) -> u16
+    requires { ⌜ (4 ≤ count) × (count ≤ 8) × (i + count ≤ length (now bytes)) ⌝ }
+    ensures { λ r. ⌜ r ≡ checksumFrom sum (take count (drop i (now (bytes .entry)))) ⌝ }
 {
-    let quarter = x / 4;
-    let spread = quarter ^ (quarter * 2) ^ (x % 4 * 0x5000);
-    let odd = (u16::count_ones(x) % 2) as u16;
-    spread ^ (odd * 0xc001)
-}
-
-// The byte at the place i, taken in: eight shifts of the low byte are sixteen of it a byte higher.
-fn take_byte(sum: u16, bytes: &[u8], i: usize) -> u16
-    requires { ⌜ i + 1 ≤ length (now bytes) ⌝ }
-    ensures { λ r. ⌜ r ≡ checksumFrom sum (take 1 (drop i (now (bytes .entry)))) ⌝ }
-{
-    let low = (sum ^ (bytes[i] as u16)) % 256;
-    sixteen_shifts(low * 256) ^ (sum / 256)
-}
-
-// The two bytes from the place i on, taken in at once.
-fn take_two(sum: u16, bytes: &[u8], i: usize) -> u16
-    requires { ⌜ i + 2 ≤ length (now bytes) ⌝ }
-    ensures { λ r. ⌜ r ≡ checksumFrom sum (take 2 (drop i (now (bytes .entry)))) ⌝ }
-{
-    sixteen_shifts(sum ^ ((bytes[i + 1] as u16) * 256 + (bytes[i] as u16)))
-}
-
-// The four bytes from the place i on, taken in at once: thirty-two shifts of a number are sixty-four
-// of it 32 places higher.
-fn take_four(sum: u16, bytes: &[u8], i: usize) -> u16
-    requires { ⌜ i + 4 ≤ length (now bytes) ⌝ }
-    ensures { λ r. ⌜ r ≡ checksumFrom sum (take 4 (drop i (now (bytes .entry)))) ⌝ }
-{
-    sixty_four_shifts(((sum as u64) ^ (four_at(bytes, i) as u64)) << 32)
-}
-
-// The eight bytes from the place i on, taken in at once.
-fn take_eight(sum: u16, bytes: &[u8], i: usize) -> u16
-    requires { ⌜ i + 8 ≤ length (now bytes) ⌝ }
-    ensures { λ r. ⌜ r ≡ checksumFrom sum (take 8 (drop i (now (bytes .entry)))) ⌝ }
-{
-    sixty_four_shifts((sum as u64) ^ eight_at(bytes, i))
+    let number = (sum as u64) ^ four_to_eight_at(bytes, i, count);
+    sixty_four_shifts(number << (64 - 8 * (count as u64)))
 }
 
 // The checksum of the first `count` bytes, or of all that there are.
@@ -84,41 +47,40 @@ fn checksum_of_front(bytes: &[u8], count: usize) -> u16
     let mut sum: u16 = 0xffff;
     let mut i: usize = 0;
     while count - i >= 8 {
-        sum = take_eight(sum, bytes, i);
+        sum = take_number(sum, bytes, i, 8);
         i += 8;
     }
     if i == count {
         return sum;
     }
-    take_rest(sum, bytes, i, count)
+    if count - i >= 4 {
+        return take_number(sum, bytes, i, count - i);
+    }
+    take_few(sum, bytes, i, count)
 }
 
-// The bytes that are left from the place `from` on, fewer than eight, taken in.
-fn take_rest(start: u16, bytes: &[u8], from: usize, count: usize) -> u16
-    requires { ⌜ (from ≤ count) × (count < from + 8) × (count ≤ length (now bytes)) × (start ≡ checksumOf (take from (now bytes))) ⌝ }
+// The bytes from the place `from` on, one to seven, taken in at once: each is set at the top of a word, the
+// last one topmost, and the sum on the first. What of the sum is above them only moves down. Each byte
+// is read by itself, so that a compiler finds those that were just stored.
+fn take_few(sum: u16, bytes: &[u8], from: usize, count: usize) -> u16
+    requires { ⌜ (from < count) × (count ≤ from + 7) × (count ≤ length (now bytes)) ⌝ }
+    ensures { λ r. ⌜ r ≡ checksumFrom sum (take (count - from) (drop from (now (bytes .entry)))) ⌝ }
+{
+    let n = (count - from) as u64;
+    let mut word: u64 = 0;
+    let mut i: u64 = 0;
+    while i < n {
+        word += (bytes[count - 1 - (i as usize)] as u64) << (56 - 8 * i);
+        i += 1;
+    }
+    let above = ((sum as u64) >> (8 * n)) as u16;
+    sixty_four_shifts(word ^ ((sum as u64) << (64 - 8 * n))) ^ above
+}
+
+// The checksum of the first one to seven bytes, as a reply has: they were just stored.
+pub fn checksum_of_few(bytes: &[u8], count: usize) -> u16
+    requires { ⌜ (1 ≤ count) × (count ≤ 7) × (count ≤ length (now bytes)) ⌝ }
     ensures { λ r. ⌜ r ≡ checksumOf (take count (now (bytes .entry))) ⌝ }
 {
-    let mut sum = start;
-    let mut i = from;
-    if count - i >= 4 {
-        sum = take_four(sum, bytes, i);
-        i += 4;
-    }
-    if count - i >= 2 {
-        sum = take_two(sum, bytes, i);
-        i += 2;
-    }
-    if i < count {
-        return take_byte(sum, bytes, i);
-    }
-    sum
-}
-
-// The checksum of the `count` lowest bytes of a word, low byte first: with at least two, none of the
-// start is shifted out.
-pub fn checksum_of_word(word: u64, count: u64) -> u16
-    requires { ⌜ (2 ≤ count) × (count ≤ 8) ⌝ }
-    ensures { λ r. ⌜ r ≡ checksumOf (wordBytes count word) ⌝ }
-{
-    sixty_four_shifts((word ^ 0xffff) << (64 - 8 * count))
+    take_few(0xffff, bytes, 0, count)
 }

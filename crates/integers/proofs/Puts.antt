@@ -1,10 +1,10 @@
 -- Texts put into a buffer, one after the other. Assumes nothing.
 use mathlib.Core.Path.{_≡_, refl, sym, ap, ap₂, _∙_}
 use mathlib.Core.List.{List, [], _∷_, _++_}
-use Prim.Native.Nat.{ℕ, suc, _+_, _≤_}
+use Prim.Native.Nat.{ℕ, suc, _+_, _≤_, _<_}
 use native.Mathlib.Nat.{add-zero}
 use native.Mathlib.Omega.{arith}
-use lib.ListN.{length, set, length-append}
+use lib.ListN.{length, set, length-append, length-set}
 use lib.Seq.{sets, length-sets}
 use Rattle.integers.specs.Bytes.{Put}
 
@@ -35,6 +35,10 @@ module _ {t a b : List ℕ} {at m : ℕ} where
   infixr 40 _then_
   pub _then_ : {u c : List ℕ} {n : ℕ} → Put t a at b m → Put u b m c n → Put (t ++ u) a at c n
   p then q = joined p refl q
+
+  -- a byte is stored behind the text
+  pub stored : (n x : ℕ) → m ≡ n → n < length a → Put t a at b m → Put (t ++ (x ∷ [])) a at (set b n x) (n + 1)
+  stored n x e h p = joined p e (record { is = refl; next = refl; fits = simp length-set (omega (arith, size p)) })
 
 pub nothing : (l : List ℕ) {at r : ℕ} → at ≡ r → at ≤ length l → Put [] l at l r
 nothing l e h = record { is = refl; next = omega arith; fits = omega arith }

@@ -3,7 +3,7 @@
 use mathlib.Core.Path.{_≡_, refl, ap, _∙_, subst}
 use mathlib.Core.Bool.{Bool, true, false, cond}
 use mathlib.Core.List.{List}
-use Prim.Native.Nat.{ℕ, suc, _+_, _-_, _%_, _^_, _≤_, _<_}
+use Prim.Native.Nat.{ℕ, suc, _+_, _-_, _%_, _*_, _^_, _≤_, _<_}
 use native.Mathlib.Nat.{mod-eq-of-lt}
 use native.Mathlib.Omega.{arith}
 use lib.Dec.{T, ltb}
@@ -68,7 +68,7 @@ unsigned-back (negsuc n) h =
 
 pub bytes-back : (l : List ℕ) → length l ≡ 8 → ((i : ℕ) → getD l i 0 < 256) → wordBytes 8 (unsignedOf (signedOf 64 (wordOf l))) ≡ l
 bytes-back l e h =
-    let w : wordOf l < 2 ^ 64 = subst (λ (k : ℕ). wordOf l < 256 ^ k) e (word-lt l h) in
+    let w : wordOf l < 2 ^ 64 = subst (λ (k : ℕ). wordOf l < 2 ^ (8 * k)) e (word-lt l h) in
     ap (wordBytes 8) (signed-back (wordOf l) w) ∙ subst (λ (k : ℕ). wordBytes k (wordOf l) ≡ l) e (bytes-word l h)
 
 pub number-back : (v : ℤ) → SFits w64 v → signedOf 64 (wordOf (wordBytes 8 (unsignedOf v))) ≡ v

@@ -13,14 +13,15 @@ pub fn four_at(bytes: &[u8], at: usize) -> u32
     low + (bytes[at + 2] as u32) * 0x1_0000 + (bytes[at + 3] as u32) * 0x100_0000
 }
 
-// The eight bytes from a place on, likewise.
-pub fn eight_at(bytes: &[u8], at: usize) -> u64
-    requires { ⌜ at + 8 ≤ length (now bytes) ⌝ }
-    ensures { λ r. ⌜ r ≡ wordOf (take 8 (drop at (now (bytes .entry)))) ⌝ }
+// Four to eight bytes from a place on, likewise: the first four, and above them those of the last four
+// that are left.
+pub fn four_to_eight_at(bytes: &[u8], at: usize, count: usize) -> u64
+    requires { ⌜ (4 ≤ count) × (count ≤ 8) × (at + count ≤ length (now bytes)) ⌝ }
+    ensures { λ r. ⌜ r ≡ wordOf (take count (drop at (now (bytes .entry)))) ⌝ }
 {
-    let low = four_at(bytes, at) as u64;
-    let high = four_at(bytes, at + 4) as u64;
-    low + high * 0x1_0000_0000
+    let first = four_at(bytes, at) as u64;
+    let last = four_at(bytes, at + count - 4) as u64;
+    first + (last >> (64 - 8 * (count as u64))) * 0x1_0000_0000
 }
 
 // Puts the `count` lowest bytes of a word into a buffer from a place on, low byte first.

@@ -1,21 +1,22 @@
--- What the three replies have in common: a message that is put as a number is the reply; and where nothing is replied the buffer
--- is as it was. Assumes nothing.
+-- What the three replies have in common: bytes that are put and ended are the reply; and where nothing is replied the buffer is as
+-- it was. Assumes nothing.
 use mathlib.Core.Path.{_≡_, refl, sym, ap, ap₂, _∙_, subst}
 use mathlib.Core.Bool.{Bool, true, false, cond, _||_, true≢false}
 use mathlib.Core.List.{List, [], _∷_, _++_}
 use Prim.Native.Nat.{ℕ, _+_, _/_, _%_, _≤_}
+use native.Mathlib.Nat.{zero-add}
 use borrow.Author.Tests.{ltb-false}
 use native.Mathlib.Omega.{arith}
 use lib.Bits.{bitOr}
 use lib.Dec.{eqb, ltb, lit≤}
 use lib.Ieee.{Float}
 use lib.ListN.{length, take, drop, length-append, length-take}
+use lib.Seq.{sets-eq, take-at, drop-append-add, drop-drop}
 use Rattle.checksum.specs.Checksum.{checksumOf, framed}
-use Rattle.integers.specs.Bytes.{wordOf, wordBytes}
+use Rattle.integers.specs.Bytes.{Put}
 use Rattle.binary32.specs.Wire.{wireBytes, sent}
 use Rattle.modbus.specs.Frame.{stationOf, functionOf}
-use Rattle.checksum.proofs.Bytes.{Bytes, bytes-each}
-use Rattle.integers.proofs.Words.{bytes-word}
+use Rattle.integers.proofs.Puts.{size}
 use Rattle.modbus.specs.Reply.{silent, unlessSilent, valueReply, writeReply, exceptionCode, exceptionReply, Replied}
 
 -- ---- what a test of silence tells
@@ -44,15 +45,19 @@ length-framed l = length-append l (checksumOf l % 256 ∷ checksumOf l / 256 ∷
 -- ---- the reply, or none
 
 module _ (s b l : List ℕ) where
-  -- of the n bytes of a word that is put
-  pub replied : (after : List ℕ) (n word r : ℕ) → silent s (length b) ≡ false → Bytes l → length l ≡ n → word ≡ wordOf l
-      → (r ≡ n + 2) × (after ≡ framed (wordBytes n word) ++ drop (n + 2) b) → Replied (unlessSilent s (length b) l) b after r
+  -- of n bytes that are put, and ended
+  pub replied : {ready after : List ℕ} {n r : ℕ} → silent s (length b) ≡ false → Put l b 0 ready n
+      → (r ≡ n + 2) × (after ≡ framed (take n ready) ++ drop (n + 2) ready) → Replied (unlessSilent s (length b) l) b after r
   unfolding unlessSilent
-  replied after n word r h bs e w put =
-      let size : r ≡ length (framed l) = put .0 ∙ sym (length-framed l ∙ ap (λ (k : ℕ). k + 2) e) in
-      let bytes : wordBytes n word ≡ l = ap₂ wordBytes (sym e) w ∙ bytes-word l (bytes-each l bs) in
+  replied {ready} {after} {n} {r} h put ended =
+      let len : n ≡ length l = put .next ∙ zero-add (length l) in
+      let total : n + 2 ≡ length (framed l) = omega (arith, len, length-framed l) in
+      let all : ready ≡ l ++ drop n b = put .is ∙ sets-eq l b 0 (omega (arith, put .next, put .fits, size put)) ∙ ap (λ (k : ℕ). l ++ drop k b) (sym (put .next)) in
+      let text : take n ready ≡ l = ap (take n) all ∙ take-at l (drop n b) n (sym len) in
+      let rest : drop (n + 2) ready ≡ drop (n + 2) b =
+      ap₂ (λ (k : ℕ) (m : List ℕ). drop (k + 2) m) len all ∙ drop-append-add l (drop n b) 2 ∙ drop-drop 2 n b in
       subst (λ (t : Bool). Replied (cond t [] (framed l)) b after r) (sym h)
-      (record { count = size; buffer = put .1 ∙ ap₂ (λ (m : List ℕ) (k : ℕ). framed m ++ drop k b) bytes (sym (put .0) ∙ size) })
+      (record { count = ended .0 ∙ total; buffer = ended .1 ∙ ap₂ (λ (m k : List ℕ). framed m ++ k) text (rest ∙ ap (λ (k : ℕ). drop k b) total) })
 
   pub unreplied : silent s (length b) ≡ true → Replied (unlessSilent s (length b) l) b b 0
   unfolding unlessSilent

@@ -4,7 +4,7 @@ ghost use Rattle.sheet.specs.Bytes.{countAt, figureAt};
 ghost use Rattle.sheet.specs.Step.{countFound, figureFound};
 use crate::CountFound;
 use crate::FigureFound;
-use integers::bytes::eight_at;
+use integers::bytes::four_to_eight_at;
 use integers::bytes::signed;
 
 // The count at a place; 0 past the end.
@@ -27,7 +27,7 @@ pub fn figure_at(s: &[u8], at: usize) -> i64
     if s.len() - 8 < at {
         return 0;
     }
-    signed(eight_at(s, at), 64)
+    signed(four_to_eight_at(s, at, 8), 64)
 }
 
 // The count at a place and the place after it; or 1.

@@ -7,12 +7,12 @@ ghost use lib.Ieee.{binary32, ofBits};
 ghost use Rattle.binary32.specs.Sent.{stepFloat, countFloat};
 ghost use Rattle.binary32.specs.Wire.{received};
 
-// Four bytes come in as the expected float; compared are the bytes of the two as they are sent.
+// Four bytes come in as the expected float; compared are the patterns of the two.
 fn comes_in(a: u8, b: u8, c: u8, d: u8, expected: f32)
     requires { ⌜ received a b c d ≡ expected ⌝ }
 {
-    let bytes = binary32::wire::bytes_of_float(binary32::wire::float_of_bytes(a, b, c, d));
-    check::expect(bytes == binary32::wire::bytes_of_float(expected));
+    let pattern = binary32::wire::bits_of_float(binary32::wire::float_of_bytes(a, b, c, d));
+    check::expect(pattern == binary32::wire::bits_of_float(expected));
 }
 
 pub(crate) fn of_001() {
@@ -37,14 +37,14 @@ pub(crate) fn float_of(bits: u32) -> f32
     )
 }
 
-// A step count goes out as the float of a pattern; compared are the bytes of the two as they are sent. The range is said as a
-// test, which the prover computes as it does the rest of a case.
+// A step count goes out as the float of a pattern; compared are the patterns of the two. The range is said as a test, which the
+// prover computes as it does the rest of a case.
 fn goes_out(z: i64, bits: u32)
     requires { ⌜ leb (natAbs z) 4194304000 ≡ true ⌝ }
     requires { ⌜ stepFloat z ≡ ofBits binary32 bits ⌝ }
 {
-    let bytes = binary32::wire::bytes_of_float(binary32::sent::float_of_steps(z));
-    check::expect(bytes == binary32::wire::bytes_of_float(float_of(bits)));
+    let pattern = binary32::wire::bits_of_float(binary32::sent::float_of_steps(z));
+    check::expect(pattern == binary32::wire::bits_of_float(float_of(bits)));
 }
 
 pub(crate) fn steps_out() {
@@ -69,8 +69,8 @@ fn part_goes_out(z: i64, bits: u32)
     requires { ⌜ leb (natAbs z) 17179869184 ≡ true ⌝ }
     requires { ⌜ countFloat 28 z ≡ ofBits binary32 bits ⌝ }
 {
-    let bytes = binary32::wire::bytes_of_float(binary32::sent::float_of_parts(z));
-    check::expect(bytes == binary32::wire::bytes_of_float(float_of(bits)));
+    let pattern = binary32::wire::bits_of_float(binary32::sent::float_of_parts(z));
+    check::expect(pattern == binary32::wire::bits_of_float(float_of(bits)));
 }
 
 pub(crate) fn parts_out() {

@@ -18,12 +18,12 @@ fn asked_number(asked: Frame) -> u64
     }
 }
 
-// The four bytes of a write's float; else 0.
+// The pattern of a write's float; else 0.
 fn float_of(asked: Frame) -> u32
     ensures { λ r. ⌜ r ≡ floatOf asked ⌝ }
 {
     match asked {
-        Frame::Write(_, x) => binary32::wire::bytes_of_float(x),
+        Frame::Write(_, x) => binary32::wire::bits_of_float(x),
         _ => 0,
     }
 }

@@ -1,8 +1,8 @@
--- `modbus::reply::exception` meets its contract: the message as one number. Assumes nothing.
-use mathlib.Core.Path.{_≡_, refl, sym, _∙_, subst}
+-- `modbus::reply::exception` meets its contract. Assumes nothing.
+use mathlib.Core.Path.{_≡_, refl, sym, ap, _∙_, subst}
 use mathlib.Core.Bool.{Bool, true, false, cond}
 use mathlib.Core.List.{List, [], _∷_}
-use Prim.Native.Nat.{ℕ, _+_, _*_}
+use Prim.Native.Nat.{ℕ}
 use native.Mathlib.Omega.{arith}
 use borrow.Author.Tests.{eq-eqb, ne-eqb}
 use denote.Ref.{now}
@@ -11,7 +11,8 @@ use lib.Dec.{eqb}
 use lib.ListN.{length}
 use Rattle.modbus.specs.Frame.{stationOf, functionOf}
 use Rattle.modbus.specs.Reply.{silent, unlessSilent, exceptionCode, exceptionReply, Replied}
-use Rattle.checksum.proofs.Bytes.{Bytes}
+use Rattle.integers.specs.Bytes.{Put}
+use Rattle.integers.proofs.Puts.{size, reads}
 use Rattle.modbus.proofs.Replies.{enough, framed-enough, replied, unreplied}
 use borrow.Author.Needs.{needs}
 use Rattle.modbus.proofs.reply.exception.Statement.{statement}
@@ -43,33 +44,50 @@ module _ (s b : List ℕ) (number : ℕ) where
       subst (λ (t : Bool). Replied (cond t [] (with code)) b after n) (sym (ne-eqb code 0 (λ g. h (e ∙ g))))
       (subst (λ (i : ℕ). Replied (with i) b after n) e r)
 
-speaks : (c : tie.Else1) → silent (now (c .before .before .before .before .args .frame)) (length (now (c .before .before .before .before .args .reply))) ≡ false
+module _ (c : tie.After-is-silent) where
+  abbrev request : List ℕ
+  request = now (c .before .before .before .args .frame)
+
+  abbrev lent : List ℕ
+  lent = now (c .before .before .before .args .reply)
+
+speaks : (c : tie.Else1) → silent (request (c .before)) (length (lent (c .before))) ≡ false
 speaks c = sym (c .before .is-silent .ensures) ∙ c .if1 .left
+
+abbrev spoken : tie.Else2 → tie.Else1
+spoken c = c .before .before .before
+
+abbrev told : tie.After-put-three → tie.Else2
+told c = c .before .before .before .before
+
+-- the three bytes, with the code as it was found
+module _ (c : tie.After-put-three) where
+  abbrev text : List ℕ
+  text = let s = request (spoken (told c) .before) in stationOf s ∷ bitOr (functionOf s) 128 ∷ told c .before .exception-code .result ∷ []
+
+  filled : Put text (lent (spoken (told c) .before)) 0 (c .put-three .last .0) 3
+  filled =
+      let s = request (spoken (told c) .before) in
+      reads (ap (λ (t : ℕ). stationOf s ∷ t ∷ told c .before .exception-code .result ∷ []) (c .before .top-set .ensures)) (c .put-three .ensures)
 
 returns-3 : tie.Need-returns-3
 returns-3 c =
-    let e = c .before .before .before .before .before .before .before .before .before in
-    let a = e .before .before .before .before .args in
-    let s = now (a .frame) in
-    let b = now (a .reply) in
-    let x = c .before .before .before .before .before .before .before .exception-code in
-    let t = c .before .before .before .before .top-set in
-    let p = c .before .before .put in
-    let l = stationOf s ∷ bitOr (functionOf s) 128 ∷ x .result ∷ [] in
-    let bytes : Bytes l = (omega (arith, c .before .before .before .before .before .shared-slice-known3 .given 0), (omega (arith, t .ensures), (omega arith, tt))) in
-    coded s b (a .number) (x .result) (x .ensures) (c .before .before .before .before .before .before .if2 .left) (p .last .0) (p .result)
-    (replied s b l (p .last .0) 3 (stationOf s + t .result * 0x100 + x .result * 0x10000) (p .result) (speaks e) bytes refl (omega (arith, t .ensures)) (p .ensures))
+    let p = c .before .before .before .before .before .before in
+    let k = told p in
+    let e = spoken k .before in
+    let x = k .before .exception-code in
+    coded (request e) (lent e) (e .before .before .before .args .number) (x .result) (x .ensures) (k .if2 .left) (c .before .before .end .last .0) (c .before .before .end .result)
+    (replied (request e) (lent e) (text p) (speaks (spoken k)) (filled p) (c .before .before .end .ensures))
 
 pub exception-spec : {M : Type 1} → statement M
 exception-spec =
     tie.close
     (tie.spec (λ c κs. search needs)
-    (λ c. let a = c .before .before .before .before .args in quiet (now (a .frame)) (now (a .reply)) (a .number) (sym (c .before .is-silent .ensures) ∙ c .if1 .taken))
+    (λ c. quiet (request (c .before)) (lent (c .before)) (c .before .before .before .before .args .number) (sym (c .before .is-silent .ensures) ∙ c .if1 .taken))
     (λ c. omega (arith, framed-enough _ _ (speaks (c .before)))) (λ c κs. search needs)
-    (λ c. let a = c .before .before .before .before .before .before .before .args in uncoded (now (a .frame)) (now (a .reply)) (a .number) (sym (c .before .exception-code .ensures) ∙ c .if2 .taken))
-    (λ c. omega (arith, framed-enough _ _ (speaks (c .before .before .before .before))))
-    (λ c. omega (arith, c .shared-slice-known3 .given 0)) (λ c κs. search needs) (λ c. search needs) (λ c. search needs)
-    (λ c. omega (arith, c .before .shared-slice-known3 .given 0)) (λ c. search needs) (λ c. search needs)
-    (λ c. omega (arith, c .before .before .shared-slice-known3 .given 0))
-    (λ c κs. (omega arith, omega arith, omega (arith, enough _ _ (speaks (c .before .before .before .before .before .before))))) (λ c. search needs)
-    returns-3)
+    (λ c. let e = c .before .before .before .before in uncoded (request e) (lent e) (e .before .before .before .args .number) (sym (c .before .exception-code .ensures) ∙ c .if2 .taken))
+    (λ c. omega (arith, framed-enough _ _ (speaks (spoken (c .before .before)))))
+    (λ c κs. search needs)
+    (λ c κs. omega (arith, enough _ _ (speaks (spoken (c .before .before .before)))))
+    (λ c κs. let p = c .before .before .before in omega (arith, enough _ _ (speaks (spoken (told p))), size (filled p)))
+    (λ c. search needs) returns-3)

@@ -32,7 +32,7 @@ returns-3 c =
     let a = c .before .before .before .before .before .args in
     let h : a .at + 8 ≤ length (a .s .now) = omega arith in
     let b : toZ w64 (ofZ w64 (c .signed .result)) ≡ c .signed .result = search needs in
-    b ∙ c .signed .ensures ∙ ap (signedOf 64) (c .before .eight-at .ensures) ∙ sym (simp (le-leb _ _ h))
+    b ∙ c .signed .ensures ∙ ap (signedOf 64) (c .before .four-to-eight-at .ensures) ∙ sym (simp (le-leb _ _ h))
 
 pub figure-at-spec : {M : Type 1} → statement M
 figure-at-spec =

@@ -1,15 +1,13 @@
 -- `vectors::floats::goes_out` meets its contract. Assumes nothing.
 use mathlib.Core.Path.{_∙_, ap, sym, subst}
-use lib.Ieee.{Float}
+use lib.Ieee.{binary32, toBits}
 use lib.IntN.{ℤ}
 use mir.Syntax.{w64}
 use mir.ValLaws.{toZ-ofZ}
 use borrow.Author.Needs.{needs}
 use borrow.Author.Tests.{eq-eqb, leb-true}
-use Rattle.integers.specs.Bytes.{wordOf}
 use Rattle.integers.specs.Within.{_within_}
 use Rattle.binary32.specs.Sent.{stepFloat}
-use Rattle.binary32.specs.Wire.{sent}
 use Rattle.vectors.proofs.floats.goes_out.Statement.{statement}
 use Rattle.vectors.proofs.floats.goes_out.Tie as tie
 
@@ -23,8 +21,8 @@ expect-requires c κs =
     let z = ap stepFloat (toZ-ofZ w64 _ (k .before .fits .z)) in
     let same = k .float-of-steps .ensures ∙ (z ∙ (k .before .pre .1 ∙ sym (c .before .float-of .ensures))) in
     eq-eqb _ _
-    (c .before .before .bytes-of-float .ensures
-    ∙ (ap (λ (x : Float). wordOf (sent x)) same ∙ sym (c .bytes-of-float2 .ensures)))
+    (c .before .before .bits-of-float .ensures
+    ∙ (ap (toBits binary32) same ∙ sym (c .bits-of-float2 .ensures)))
 
 pub goes-out-spec : {M : Type 1} → statement M
 goes-out-spec =

@@ -20,7 +20,7 @@ others (Act r) h = refl
 
 returns : tie.Need-returns
 unfolding floatOf
-returns c = c .bytes-of-float .ensures ∙ sym (ap floatOf (c .before .before .asked .given .1))
+returns c = c .bits-of-float .ensures ∙ sym (ap floatOf (c .before .before .asked .given .1))
 
 returns-2 : tie.Need-returns-2
 returns-2 c = others (c .before .args .asked) (c .match .keys2)
