@@ -11,7 +11,7 @@ use model::Figures;
 use std::hint::black_box;
 use std::{mem::size_of, process::ExitCode, time::Instant};
 
-const KINDS: [(&str, &str); 8] = [
+const KINDS: [(&str, &str); 9] = [
     ("default", "reading, default sheet"),
     ("full", "reading, full tables, filter on"),
     ("read", "read frame"),
@@ -20,9 +20,10 @@ const KINDS: [(&str, &str); 8] = [
     ("panel", "write frame (a figure of the copy)"),
     ("apply", "write frame (99, full tables in force)"),
     ("reset", "write frame (RST)"),
+    ("exception", "read frame refused (no such register)"),
 ];
 const USAGE: &str =
-    "measure [default|full|read|write|figure|panel|apply|reset N [model|archive]] (archive: only if linked)";
+    "measure [default|full|read|write|figure|panel|apply|reset|exception N [model|archive]] (archive: only if linked)";
 const STATION: u8 = 52;
 
 /// Five and seven points and a filter that smooths every reading.
@@ -46,7 +47,11 @@ fn figure_write(row: &Row, i: u16) -> Vec<u8> {
     write_frame(STATION, 2 * row.first, scaled(count, scale).to_bits())
 }
 
-/// The i-th frame of a kind; all are accepted.
+/// A register that is not listed, and the number of a frame that asks for it.
+const UNLISTED: u16 = 7;
+const NO_SUCH: u8 = 15;
+
+/// The i-th frame of a kind; all are accepted, but for exceptions.
 fn frame(kind: &str, i: u16) -> Vec<u8> {
     let row = &ROWS[usize::from(i) % ROWS.len()];
     match kind {
@@ -55,6 +60,7 @@ fn frame(kind: &str, i: u16) -> Vec<u8> {
         "panel" => figure_write(row, i),
         "apply" => write_frame(STATION, 2 * APPLY, 0),
         "reset" => write_frame(STATION, 2 * RST, 0),
+        "exception" => read_frame(STATION, 2 * UNLISTED),
         _ => read_frame(STATION, 2 * [6, 10, 11, 13, 14, 22, 24, 25][usize::from(i % 8)]),
     }
 }
@@ -70,21 +76,22 @@ fn calls<C: Converter>(kind: &str, n: usize) -> f64 {
     let frames: Vec<Vec<u8>> = (0..1_024).map(|i| frame(kind, i)).collect();
     assert_eq!(device.reading(6_553_600, 1_310_720, 0), 0);
     let mut reply = [0; 9];
-    let mut refused = 0;
+    let due = if kind == "exception" { NO_SUCH } else { 0 };
+    let mut others = 0;
     let start = Instant::now();
     if matches!(kind, "default" | "full") {
         for &(elec, temp) in readings.iter().cycle().take(n) {
-            refused += u32::from(device.reading(black_box(elec), black_box(temp), 0));
+            others += u32::from(device.reading(black_box(elec), black_box(temp), 0) != due);
         }
     } else {
         for frame in frames.iter().cycle().take(n) {
-            refused += u32::from(device.frame(black_box(frame), &mut reply).0);
+            others += u32::from(device.frame(black_box(frame), &mut reply).0 != due);
             black_box(&reply);
         }
     }
     let seconds = start.elapsed().as_secs_f64();
     black_box(&device);
-    assert_eq!(refused, 0);
+    assert_eq!(others, 0);
     seconds
 }
 
