@@ -36,7 +36,7 @@ extern "C" {
 /* Another MAJOR: code that was compiled with the older header must not be linked with this archive. */
 #define CONVERTER_VERSION_MAJOR 3
 #define CONVERTER_VERSION_MINOR 0
-#define CONVERTER_VERSION_PATCH 0
+#define CONVERTER_VERSION_PATCH 1
 
 /* Numbers of refusal; 0 is an accepted call. */
 enum {
