@@ -63,7 +63,7 @@ fn temperature_points_at(s: &[u8], at: usize, n: usize) -> [TemperaturePoint; 5]
         cto: 0,
         ctg: 0,
     };
-    let mut points = [none; 5];
+    let mut points: [TemperaturePoint; 5] = [none; 5];
     let mut i: usize = 0;
     while i < n {
         let point = temperature_point_at(s, at + places::TEMPERATURE_POINT_SIZE * i);
@@ -96,7 +96,7 @@ fn linearity_points_at(s: &[u8], at: usize, n: usize) -> [LinearityPoint; 7]
     ensures { λ r. ⌜ r ≡ pointsAt noLinearity linearityPointAt linearityPointSize 7 (now (s .entry)) at n ⌝ }
 {
     let none = LinearityPoint { clx: 0, clk: 0 };
-    let mut points = [none; 7];
+    let mut points: [LinearityPoint; 7] = [none; 7];
     let mut i: usize = 0;
     while i < n {
         let point = linearity_point_at(s, at + places::LINEARITY_POINT_SIZE * i);
@@ -203,8 +203,8 @@ pub fn no_figures() -> Calibration
         ctg: 0,
     };
     let l = LinearityPoint { clx: 0, clk: 0 };
-    let t_points = [t; 5];
-    let l_points = [l; 7];
+    let t_points: [TemperaturePoint; 5] = [t; 5];
+    let l_points: [LinearityPoint; 7] = [l; 7];
     let cell = Cell {
         cofs: 0,
         cgai: 0,
