@@ -10,7 +10,7 @@ use lib.Signed.{_<ℤ_, ltZ-yes}
 use Rattle.integers.proofs.Order.{mul-pos}
 use Rattle.integers.proofs.Magnitude.{abs-mul, abs-neg, abs-sum2}
 use Rattle.integers.proofs.Ring.{ring, polynomials}
-use Rattle.arithmetic.specs.Fraction.{Fraction, whole, _-F_, Near}
+use Rattle.arithmetic.specs.Fraction.{Fraction, whole, _+F_, _-F_, Near}
 
 pub one-pos : pos 0 <ℤ pos 1
 one-pos = ltZ-yes tt
@@ -26,7 +26,18 @@ pub near-pick : {k u : ℕ} (b : Bool) (x y : ℤ) (q s : Fraction) → (b ≡ t
 near-pick true x y q s f g = f refl
 near-pick false x y q s f g = g refl
 
--- ---- differences; other units
+-- ---- sums and differences; other units
+
+sum-distance : (a b : ℤ) (p q : Fraction) → (a +ℤ b) *ℤ (p .low *ℤ q .low) -ℤ (p .top *ℤ q .low +ℤ q .top *ℤ p .low) ≡ (a *ℤ p .low -ℤ p .top) *ℤ q .low +ℤ (b *ℤ q .low -ℤ q .top) *ℤ p .low
+sum-distance a b p q = ring (a ∷ b ∷ p .low ∷ p .top ∷ q .low ∷ q .top ∷ []) (search polynomials depth 20 fits 9000) refl
+
+pub near-add : {k j u : ℕ} {a b : ℤ} {p q : Fraction} → Near k u a p → Near j u b q → Near (k + j) u (a +ℤ b) (p +F q)
+near-add {u} {a} {b} {p} {q} h g = record {
+  above = mul-pos (h .above) (g .above);
+  near =
+      let s = simp abs-mul at (abs-sum2 ((a *ℤ p .low -ℤ p .top) *ℤ q .low) ((b *ℤ q .low -ℤ q .top) *ℤ p .low) (sum-distance a b p q)) in
+      simp abs-mul (omega (arith, mul-le-mul-right u s, mul-le-mul-right (natAbs (q .low)) (h .near), mul-le-mul-right (natAbs (p .low)) (g .near)));
+}
 
 sub-distance : (a b : ℤ) (p q : Fraction) → (a -ℤ b) *ℤ (p .low *ℤ q .low) -ℤ (p .top *ℤ q .low -ℤ q .top *ℤ p .low) ≡ (a *ℤ p .low -ℤ p .top) *ℤ q .low +ℤ negℤ (b *ℤ q .low -ℤ q .top) *ℤ p .low
 sub-distance a b p q = ring (a ∷ b ∷ p .low ∷ p .top ∷ q .low ∷ q .top ∷ []) (search polynomials depth 20 fits 9000) refl

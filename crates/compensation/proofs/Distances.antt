@@ -13,7 +13,7 @@ use Rattle.compensation.specs.Stat.{Raised}
 use Rattle.compensation.specs.Distances.{Between, FarBelow, FarAbove, Judges, AlwaysBetween}
 use Rattle.compensation.proofs.Faithful.{faithful}
 
-between : {k : ℕ} {x t l : ℤ} → Within k x (t over l) → Between k x (t over l)
+pub between : {k : ℕ} {x t l : ℤ} → Within k x (t over l) → Between k x (t over l)
 between {l = negsuc n} w = absurd (w .above .lt)
 between {k} {x} {t} {l = pos n} w =
     let X = ⟨ x ⟩ ⊗ nat n ⊝ ⟨ t ⟩ in (

@@ -17,8 +17,10 @@
 -- 4. What is lent (Lent, Record, Field). Lent has the entries of lent slices and of a lent record. A record's type is told once, as a
 --    `Lendable`, with its machine values shut, so that they are compared by name; then
 --        opens-record, closes-record     the borrow behind a `&mut` is opened, which gives the record's cell, and closed at another value
---        gives-record                    it is closed, and given up for good
---        copies, stores                  a part of the cell is copied into a local, or stored; `Inside` tells a part, by the steps to it
+--        gives-record                    it is closed, and given up for good; of one that was never opened, leaves-record
+--        looks-into, looks-away          one behind a `&` is looked into, which gives a share of its cell, and no longer
+--        copies, copies-of, stores       a part of the cell, or of a local, is copied into a local, or stored; `Inside` tells a part, by the
+--                                        steps to it
 --    `sub-in` finds a field of a struct whose type is told by an equation.
 --
 -- 5. The end (Locals, Entered). `frees-all` frees every local at return; `walk-entered` makes a walk the proof of the contract, from the
