@@ -44,7 +44,8 @@ use Rattle.state.specs.declared.State.{State}
 use Rattle.answers.specs.declared.Answer.{Answer}
 use Rattle.answers.specs.declared.Answer.the-variants.{Value, Done, Refused}
 use Rattle.converter.specs.Making.{started}
-use Rattle.converter.specs.Call.{Call, reading, frame, report, obeyed, afterReading, afterCall, answerToBytes, number, replyWith, reply}
+use Rattle.converter.specs.Corner.{cornerRefused}
+use Rattle.converter.specs.Call.{Call, reading, frame, report, corner, obeyed, afterReading, afterCall, answerToBytes, number, replyWith, reply}
 use Rattle.converter.specs.Reached.{Reached, Serving}
 use Rattle.converter.specs.Wire.{Sends, Withholds}
 use Rattle.converter.specs.declared.Device.{Device}
@@ -59,15 +60,17 @@ obeyed-unchanged d f h = by (obeys (d .state) (d .setup) f) refl
     by true e = absurd (h (ap numberOf (answer-obeyed (d .state) (d .setup) f e)))
     by false e = unobeyed d f e
 
+-- by a call that changes the device to e, or is refused by n
+unless-refused : (n : ℕ) (refused : Bool) (d e : Device) → (cond refused n 0 ≡ 0 → ⊥) → cond refused d e ≡ d
+unless-refused n true d e h = refl
+unless-refused n false d e h = absurd (h refl)
+
 pub refused-unchanged : (d : Device) (c : Call) → (number d c ≡ 0 → ⊥) → afterCall d c ≡ d
 unfolding answerToBytes
-refused-unchanged d (reading elec temp integrity) h = go (badReading elec temp integrity) h
-  where
-    go : (b : Bool) → (_≡_ {A = ℕ} (cond b 9 0) 0 → ⊥) → cond b d (afterReading d elec temp integrity) ≡ d
-    go true k = refl
-    go false k = absurd (k refl)
+refused-unchanged d (reading elec temp integrity) h = unless-refused 9 (badReading elec temp integrity) d _ h
 refused-unchanged d (frame bytes room) h = obeyed-unchanged d (judged bytes room (d .setup .station)) h
 refused-unchanged d report h = refl
+refused-unchanged d (corner own samples) h = unless-refused 18 (cornerRefused samples) d _ h
 
 -- ---- the length replied is within the lent buffer
 

@@ -9,6 +9,7 @@ use lib.ListN.{length}
 use Rattle.integers.specs.Within.{_within_}
 use Rattle.figures.specs.Acceptable.{TemperatureAcceptable}
 use Rattle.compensation.specs.ReadingLimits.{elecMost}
+use Rattle.compensation.specs.Filter.{Remembered}
 use Rattle.compensation.specs.ForCode.{inputAt, cellValuesAt, valuesFrom, FilterInput, CellInput, ValuesInput}
 use Rattle.compensation.specs.declared.steps.CellValues.{CellValues}
 use Rattle.compensation.specs.declared.steps.Input.{Input}
@@ -20,7 +21,7 @@ use Rattle.modbus.specs.Frame.{judged}
 use Rattle.modbus.specs.declared.frame.Frame.{Frame}
 use Rattle.modbus.specs.declared.frame.Frame.the-variants as asks
 use Rattle.modbus.specs.declared.frame.Frame.the-variants.{Read, Write, Act}
-use Rattle.state.specs.Reading.{badReading, stateAfterReading, stateAfterValues}
+use Rattle.state.specs.Reading.{badReading, readingsAfter, stateAfterReading, stateAfterValues}
 use Rattle.state.specs.ForCode.{heldAfter, remembering}
 use Rattle.state.proofs.Remembered.{remembered-first}
 use borrow.Author.Tests.{ne-eqb, eqb-true}
@@ -52,6 +53,9 @@ module _ {d : Device} (h : Reached d) (elec temp : ℤ) (integrity : ℕ) where
 
   -- a good one: what each function that is called asks, by what those before it gave
   module _ (good : badReading elec temp integrity ≡ false) where
+    pub takes : {e : Device} → e ≡ afterCall d (call.reading elec temp integrity) → Reading d elec temp integrity (record { number = 0; device = e })
+    takes {e} e-is = gives (ap (λ (x : Device). record { number = 0; device = x }) e-is ∙ rw good refl)
+
     pub filters : FilterInput (d .setup .figures .filter) (d .state .readings .input) (d .state .readings .elec) elec
     filters = let s = reached-sound h in record { acceptable = s .setup-ok .acceptable .filter-ok; previous-in = s .state-ok .readings-ok .input-in; held-in = s .state-ok .readings-ok .held-in; input-in = good-elec elec temp integrity good }
 
@@ -74,6 +78,11 @@ module _ {d : Device} (h : Reached d) (elec temp : ℤ) (integrity : ℕ) where
             → Reading d elec temp integrity (record { number = 0; device = record { setup = d .setup; state = s } })
         unfolding stateAfterReading
         joins v-is r-is s-is = gives (rw (good, s-is, r-is, remembered-first (d .state) elec held temp _, v-is, k-is, i-is, held-is, values-joined) refl)
+
+-- and its SYS
+pub sys-joined : (r : State) (m : Remembered) (temp : ℤ) (v : Values) {s : State} → s ≡ stateAfterValues r m temp v → v .sys ≡ s .readings .values .sys
+unfolding stateAfterValues readingsAfter
+sys-joined r m temp v e = sym (ap (λ (s : State). s .readings .values .sys) e)
 
 -- ---- a frame
 

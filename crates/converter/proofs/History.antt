@@ -32,7 +32,9 @@ use Rattle.state.specs.declared.Readings.{Readings}
 use Rattle.state.specs.declared.State.{State}
 use Rattle.converter.specs.declared.Device.{Device}
 use Rattle.converter.specs.Making.{made, setupOf, started}
-use Rattle.converter.specs.Call.{Call, reading, frame, report, obeyed, afterReading, afterCall, run}
+use Rattle.converter.specs.Corner.{at, cornerRefused}
+use Rattle.converter.specs.declared.corner.Sample.{Sample}
+use Rattle.converter.specs.Call.{Call, reading, frame, report, corner, obeyed, afterReading, afterCall, run}
 use Rattle.converter.specs.Log as log
 use Rattle.converter.specs.Log.{Kept, valued, Entry, peakReset, Event, Log, latest, begun, keptOf, join, resetPeaks, logBy, note, noted, logOf}
 use Rattle.converter.specs.History.{sysSince, Largest, Smallest, Right}
@@ -42,6 +44,7 @@ use Rattle.converter.proofs.Events.{Latched, latch-raised, latch-kept, 
 use Rattle.converter.proofs.Extremes.{largest-one, smallest-one, largest-more, smallest-more}
 use Rattle.converter.proofs.Made.{making-accepted, making-sound}
 use Rattle.converter.proofs.Sound.{Sound, started-sound, step-sound, good-elec, held-within}
+use Rattle.converter.proofs.Corners.{corner-good}
 
 -- ---- the device beside the log
 
@@ -137,10 +140,11 @@ reads d l t elec temp integrity g = record {
         subst (λ (h : ℤ). h within elecMost) same-held
         (held-within (d .setup .figures) (d .state .readings) elec (t .sound .setup-ok .acceptable) (t .sound .state-ok .readings-ok .held-in) (good-elec elec temp integrity g))
 
-reads-or-not : (d : Device) (l : Log) → Tracks d l → (elec temp : ℤ) (integrity : ℕ) (bad : Bool) → badReading elec temp integrity ≡ bad
-    → Tracks (cond bad d (afterReading d elec temp integrity)) (cond bad l (join l (keptOf l elec temp integrity)))
+-- a reading by itself, and a corner's, which is refused too where another's is bad
+reads-or-not : (d : Device) (l : Log) → Tracks d l → (elec temp : ℤ) (integrity : ℕ) (refused : Bool) → (refused ≡ false → badReading elec temp integrity ≡ false)
+    → Tracks (cond refused d (afterReading d elec temp integrity)) (cond refused l (join l (keptOf l elec temp integrity)))
 reads-or-not d l t elec temp integrity true e = t
-reads-or-not d l t elec temp integrity false e = reads d l t elec temp integrity e
+reads-or-not d l t elec temp integrity false e = reads d l t elec temp integrity (e refl)
 
 -- ---- a peak reset
 
@@ -234,13 +238,16 @@ obeys d l t (Act r) h =
 -- ---- one call, and all of them
 
 pub steps : (d : Device) (l : Log) → Tracks d l → (c : Call) → Tracks (afterCall d c) (note l c)
-steps d l t (reading elec temp integrity) = reads-or-not d l t elec temp integrity (badReading elec temp integrity) refl
+steps d l t (reading elec temp integrity) = reads-or-not d l t elec temp integrity (badReading elec temp integrity) (λ e. e)
 steps d l t (frame bytes room) =
     let f : Frame = judged bytes room (l .setup .station) in
     let same : judged bytes room (d .setup .station) ≡ f = ap (λ (s : Setup). judged bytes room (s .station)) (t .setup-is) in
     subst (λ (g : Frame). Tracks (obeyed d g) (logBy l f)) (sym same)
     (obeys d l t f (subst (λ (g : Frame). Sound (obeyed d g)) same (step-sound d (frame bytes room) (t .sound))))
 steps d l t report = t
+steps d l t (corner own samples) =
+    let x : Sample = at samples own in
+    reads-or-not d l t (x .elec) (x .temp) (x .integrity) (cornerRefused samples) (λ e. corner-good samples e own)
 
 pub runs : (d : Device) (l : Log) → Tracks d l → (cs : List Call) → Tracks (run d cs) (noted l cs)
 runs d l t [] = t

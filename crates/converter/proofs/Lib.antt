@@ -6,6 +6,7 @@ pub mod StationFirst
 pub mod Station
 pub mod Wire
 mod Listed
+pub mod Corners
 pub mod Sound
 mod Neighbours
 pub mod History

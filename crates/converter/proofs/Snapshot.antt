@@ -18,7 +18,9 @@ use Rattle.in_force.specs.declared.Setup.{Setup}
 use Rattle.state.specs.declared.Snapshot.{Snapshot}
 use Rattle.state.specs.declared.State.{State}
 use Rattle.converter.specs.Making.{made, setupOf}
-use Rattle.converter.specs.Call.{Call, reading, frame, report, afterReading, afterCall, run}
+use Rattle.converter.specs.Corner.{at, cornerRefused}
+use Rattle.converter.specs.Call.{Call, reading, frame, report, corner, afterReading, afterCall, run}
+use Rattle.converter.specs.declared.corner.Sample.{Sample}
 use Rattle.converter.specs.Log.{Kept, Log, latest, begun, note}
 use Rattle.converter.specs.Snapshot.{snapBy, shotBy, shot, shots, sysnOf}
 use Rattle.converter.specs.declared.Device.{Device}
@@ -58,6 +60,9 @@ module _ (d : Device) (l : Log) (t : Tracks d l) (z : Option ℤ) (h : Taken (d 
       subst (λ (s : Setup). Taken (stateBy (d .state) (judged bytes room (d .setup .station)) .snapshot) (shotBy l z (judged bytes room (s .station)))) (t .setup-is)
       (obeys (judged bytes room (d .setup .station)))
   one report = h
+  one (corner own samples) =
+      let x : Sample = at samples own in
+      pick (cornerRefused samples) d (afterReading d (x .elec) (x .temp) (x .integrity)) (λ (g : Device). Taken (g .state .snapshot) z) (λ e. h) (λ e. h)
 
 all : (d : Device) (l : Log) → Tracks d l → (z : Option ℤ) → Taken (d .state .snapshot) z → (cs : List Call) → Taken (run d cs .state .snapshot) (shots l z cs)
 all d l t z h [] = h

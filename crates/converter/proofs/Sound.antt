@@ -46,7 +46,10 @@ use Rattle.state.specs.declared.Readings.{Readings}
 use Rattle.state.specs.declared.State.{State}
 use Rattle.converter.specs.declared.Device.{Device}
 use Rattle.converter.specs.Making.{started}
-use Rattle.converter.specs.Call.{Call, reading, frame, report, afterReading, afterCall}
+use Rattle.converter.specs.Corner.{at, cornerRefused}
+use Rattle.converter.specs.Call.{Call, reading, frame, report, corner, afterReading, afterCall}
+use Rattle.converter.specs.declared.corner.Sample.{Sample}
+use Rattle.converter.proofs.Corners.{corner-good}
 
 pub record ReadingsSound (r : Readings) : Type 0 where
   pub input-in : (r .input) within elecMost
@@ -250,3 +253,6 @@ step-sound d (frame bytes room) h =
     let f : Frame = judged bytes room (d .setup .station) in
     record { setup-ok = setup-sound (d .setup) f (h .setup-ok); state-ok = state-sound (d .state) f (h .state-ok) }
 step-sound d report h = h
+step-sound d (corner own samples) h =
+    let x : Sample = at samples own in
+    pick (cornerRefused samples) d (afterReading d (x .elec) (x .temp) (x .integrity)) Sound (λ e. h) (λ e. read-sound d (x .elec) (x .temp) (x .integrity) h (corner-good samples e own))

@@ -3,6 +3,7 @@ use mathlib.Core.Path.{_≡_, refl, sym, ap, _∙_, subst}
 use mathlib.Core.Bool.{Bool, true, false, cond}
 use mathlib.Core.List.{List, [], _∷_}
 use Prim.Native.Nat.{ℕ}
+use lib.IntN.{ℤ}
 use lib.Dec.{eqb}
 use Rattle.integers.proofs.Order.{is-true, pick}
 use Rattle.register.specs.Number.{SZ, APPLY, RST}
@@ -14,7 +15,9 @@ use Rattle.in_force.specs.InForce.{copyFits, applied, setupWritten, setupActed,
 use Rattle.state.specs.Reading.{badReading}
 use Rattle.in_force.specs.declared.Setup.{Setup}
 use Rattle.converter.specs.Making.{stationFits, noDevice, made}
-use Rattle.converter.specs.Call.{Call, reading, frame, report, afterReading, afterCall, run}
+use Rattle.converter.specs.Corner.{at, cornerRefused}
+use Rattle.converter.specs.Call.{Call, reading, frame, report, corner, afterReading, afterCall, run}
+use Rattle.converter.specs.declared.corner.Sample.{Sample}
 use Rattle.converter.specs.Reached.{Reached}
 use Rattle.converter.specs.declared.Device.{Device}
 use Rattle.converter.proofs.Made.{making-accepted}
@@ -28,14 +31,15 @@ by-station s (Act r) =
     pick (eqb r APPLY) _ _ (λ (t : Setup). t .station ≡ s .station) (λ h. pick (copyFits s) _ _ (λ (t : Setup). t .station ≡ s .station) (λ g. refl) (λ g. refl))
     (λ h. pick (eqb r RST) _ _ (λ (t : Setup). t .station ≡ s .station) (λ g. refl) (λ g. refl))
 
+read-or-not : (d : Device) (refused : Bool) (elec temp : ℤ) (integrity : ℕ) → cond refused d (afterReading d elec temp integrity) .setup .station ≡ d .setup .station
+read-or-not d true elec temp integrity = refl
+read-or-not d false elec temp integrity = refl
+
 step-station : (d : Device) (c : Call) → afterCall d c .setup .station ≡ d .setup .station
-step-station d (reading elec temp integrity) = by (badReading elec temp integrity)
-  where
-    by : (b : Bool) → cond b d (afterReading d elec temp integrity) .setup .station ≡ d .setup .station
-    by true = refl
-    by false = refl
+step-station d (reading elec temp integrity) = read-or-not d (badReading elec temp integrity) elec temp integrity
 step-station d (frame bytes room) = by-station (d .setup) (judged bytes room (d .setup .station))
 step-station d report = refl
+step-station d (corner own samples) = let x : Sample = at samples own in read-or-not d (cornerRefused samples) (x .elec) (x .temp) (x .integrity)
 
 run-station : (d : Device) (cs : List Call) → run d cs .setup .station ≡ d .setup .station
 run-station d [] = refl

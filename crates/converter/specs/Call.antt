@@ -11,6 +11,9 @@ use Rattle.in_force.specs.InForce.{setupBy}
 use Rattle.state.specs.Request.{stateBy}
 use Rattle.answers.specs.Register.{answerOf, numberOf}
 use Rattle.state.specs.Report.{reportOf}
+use Rattle.converter.specs.Corner.{Corner, at, cornerRefused}
+use Rattle.converter.specs.declared.corner.Sample.{Sample}
+use Rattle.converter.specs.declared.corner.Samples.{Samples}
 use Rattle.converter.specs.declared.Device.{Device}
 use Rattle.answers.specs.declared.Answer.{Answer}
 use Rattle.answers.specs.declared.Answer.the-variants.{Value, Done, Refused}
@@ -20,6 +23,8 @@ pub data Call : Type 0 where
   reading : (elec temp : ℤ) (integrity : ℕ) → Call
   frame : (bytes : List ℕ) (room : ℕ) → Call
   report : Call
+  -- "In demand 3's lists this call counts, for each device, as its corner's reading, refused if the call is." (Change 4)
+  corner : (own : Corner) (samples : Samples) → Call
 
 -- a judged frame is obeyed
 abbrev pub obeyed : Device → Frame → Device
@@ -34,6 +39,7 @@ abbrev pub afterCall : Device → Call → Device
 afterCall d (reading elec temp integrity) = cond (badReading elec temp integrity) d (afterReading d elec temp integrity)
 afterCall d (frame bytes room) = obeyed d (judged bytes room (d .setup .station))
 afterCall d report = d
+afterCall d (corner own samples) = let x : Sample = at samples own in cond (cornerRefused samples) d (afterReading d (x .elec) (x .temp) (x .integrity))
 
 abbrev pub run : Device → List Call → Device
 run d [] = d
@@ -48,6 +54,7 @@ abbrev pub number : Device → Call → ℕ
 number d (reading elec temp integrity) = cond (badReading elec temp integrity) 9 0
 number d (frame bytes room) = numberOf (answerToBytes d bytes room)
 number d report = reportOf (d .state .readings) .number
+number d (corner own samples) = cond (cornerRefused samples) 18 0
 
 -- the reply's bytes, none where the device is silent
 abbrev pub replyWith : List ℕ → ℕ → Answer → List ℕ

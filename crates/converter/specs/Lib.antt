@@ -1,8 +1,10 @@
 pub mod Making
+pub mod Corner
 pub mod Call
 pub mod Reached
 pub mod Wire
 pub mod Log
+pub mod Corners
 pub mod Snapshot
 pub mod Jumps
 pub mod History

@@ -21,7 +21,9 @@ use Rattle.in_force.specs.InForce.{setupBy}
 use Rattle.state.specs.Request.{reboot, flagWhole}
 use Rattle.in_force.specs.declared.Setup.{Setup}
 use Rattle.converter.specs.Making.{setupOf}
-use Rattle.converter.specs.Call.{Call, reading, frame, report}
+use Rattle.converter.specs.Corner.{at, cornerRefused}
+use Rattle.converter.specs.Call.{Call, reading, frame, report, corner}
+use Rattle.converter.specs.declared.corner.Sample.{Sample}
 
 -- a reading that joined: the figures in force at it, its input, unfiltered and filtered, TEMP and integrity byte
 pub record Kept : Type 0 where
@@ -95,6 +97,7 @@ abbrev pub note : Log → Call → Log
 note l (reading elec temp integrity) = cond (badReading elec temp integrity) l (join l (keptOf l elec temp integrity))
 note l (frame bytes room) = logBy l (judged bytes room (l .setup .station))
 note l report = l
+note l (corner own samples) = let x : Sample = at samples own in cond (cornerRefused samples) l (join l (keptOf l (x .elec) (x .temp) (x .integrity)))
 
 abbrev pub noted : Log → List Call → Log
 noted l [] = l

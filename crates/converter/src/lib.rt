@@ -6,12 +6,15 @@ ghost use Rattle.converter.specs.Call.{obeyed};
 ghost use Rattle.converter.specs.Reached.{Reached, Making, Reading, Serving};
 
 mod bus;
+mod corner;
 mod making;
 
 pub use bus::Answered;
 pub use bus::acknowledge;
 pub use bus::answer;
 pub use bus::refuse;
+pub use corner::Sample;
+pub use corner::Samples;
 use in_force::Setup;
 use modbus::frame::Frame;
 use state::Reported;
