@@ -1,0 +1,3 @@
+pub mod Corners
+pub mod Weighs
+pub mod Near

@@ -1,0 +1,4 @@
+pub mod Weights
+pub mod Platform
+pub mod Weighs
+pub mod Near
