@@ -92,6 +92,19 @@ use Rattle.in_force.proofs.is_accepted.Met as is-accepted-thm
 use Rattle.state.proofs.fresh as fresh-of
 use Rattle.state.proofs.fresh.Symbol as fresh-def
 use Rattle.state.proofs.fresh.Met as fresh-thm
+use Rattle.converter.proofs.corner.Samples as Q
+use Rattle.converter.proofs.corner.Samples.Laws as Q′
+use Rattle.platform.proofs.weights.Weighed as J
+use Rattle.platform.proofs.weights.Weighed.Laws as J′
+use Rattle.platform.proofs.is_refused as is-refused-of
+use Rattle.platform.proofs.is_refused.Symbol as is-refused-def
+use Rattle.platform.proofs.is_refused.Met as is-refused-thm
+use Rattle.platform.proofs.refused as refused-of
+use Rattle.platform.proofs.refused.Symbol as refused-def
+use Rattle.platform.proofs.refused.Met as refused-thm
+use Rattle.platform.proofs.weights_of as sums-of
+use Rattle.platform.proofs.weights_of.Symbol as sums-def
+use Rattle.platform.proofs.weights_of.Met as sums-thm
 use Rattle.walks.proofs.Call.{Plain}
 
 abbrev pub changes-state : Plain
@@ -212,4 +225,22 @@ abbrev pub is-accepted : Plain
 is-accepted = record {
   callee = record { name = is-accepted-def.name; routine = is-accepted-def.routine; ended = is-accepted-of.ended; clauses = is-accepted-of.clauses; met = is-accepted-thm.met; result = tyBool; typed = λ 𝓤 H A W κs r v is. bool-lawful 𝓤 H A W .typed r _ is .0 };
   makes = λ 𝓤 H A W κs. (LL.makes F.the-type F′.the-plain 𝓤 H A, tt);
+}
+
+abbrev pub is-refused : Plain
+is-refused = record {
+  callee = record { name = is-refused-def.name; routine = is-refused-def.routine; ended = is-refused-of.ended; clauses = is-refused-of.clauses; met = is-refused-thm.met; result = tyBool; typed = λ 𝓤 H A W κs r v is. bool-lawful 𝓤 H A W .typed r _ is .0 };
+  makes = λ 𝓤 H A W κs. (LL.makes Q.the-type Q′.the-plain 𝓤 H A, tt);
+}
+
+abbrev pub refused : Plain
+refused = record {
+  callee = record { name = refused-def.name; routine = refused-def.routine; ended = refused-of.ended; clauses = refused-of.clauses; met = refused-thm.met; result = J′.mir; typed = λ 𝓤 H A W κs r v is. LL.lawful J.the-type J′.the-laws 𝓤 H A W .typed r _ is .0 };
+  makes = λ 𝓤 H A W κs. tt;
+}
+
+abbrev pub weights-of : Plain
+weights-of = record {
+  callee = record { name = sums-def.name; routine = sums-def.routine; ended = sums-of.ended; clauses = sums-of.clauses; met = sums-thm.met; result = J′.mir; typed = λ 𝓤 H A W κs r v is. LL.lawful J.the-type J′.the-laws 𝓤 H A W .typed r _ is .0 };
+  makes = λ 𝓤 H A W κs. (sint-makes 𝓤 H A W w64, (sint-makes 𝓤 H A W w64, (sint-makes 𝓤 H A W w64, (sint-makes 𝓤 H A W w64, tt))));
 }

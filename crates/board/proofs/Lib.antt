@@ -2,4 +2,5 @@ mod Kept
 mod Record
 mod Callees
 mod Handed
+mod Samples
 mod Lent

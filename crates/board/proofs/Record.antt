@@ -1,5 +1,5 @@
 -- The parts of the board's record, as they are read and written. Assumes `Given`.
-use mathlib.Core.Path.{_≡_, refl, sym, ap, _∙_}
+use mathlib.Core.Path.{_≡_, refl, sym, ap, _∙_, subst}
 use mathlib.Core.List.{List, [], _∷_}
 use mathlib.Core.Option.{some}
 use Prim.Native.Nat.{ℕ, _+_}
@@ -35,6 +35,9 @@ use Rattle.figures.proofs.System as Y
 use Rattle.figures.proofs.System.Laws as Y′
 use Rattle.figures.proofs.Filter as I
 use Rattle.figures.proofs.Filter.Laws as I′
+use Rattle.compensation.specs.declared.steps.Values.{Values}
+use Rattle.compensation.proofs.steps.Values as E
+use Rattle.compensation.proofs.steps.Values.Laws as E′
 use Rattle.state.specs.declared.State.{State}
 use Rattle.in_force.proofs.Setup as U
 use Rattle.in_force.proofs.Setup.Laws as U′
@@ -95,6 +98,26 @@ readings-at = refl
 
 pub input-field-at : fieldOf G′.mir 1 ≡ some (tyInt w64, 8)
 input-field-at = refl
+
+-- ---- of a reading's values
+
+values-struct : IsStruct E′.mir
+values-struct = record { name = _; fields = _; is = refl }
+
+module _ (v : Values) {u : Val} (is : Is E.the-row v (u ∷ [])) where
+  pub sys-is : Is i64 (v .sys) (number (v .sys) ∷ [])
+  sys-is = LL.owed E.the-type E′.the-laws v _ (subst (Is E.the-row v) (LL.tells E.the-type E′.the-laws v _ is) is) .1 .1 .1 .0
+
+  pub sys-in : {M : Type 1} {𝓤 : URA M} {H : Heap 𝓤} {A : Atoms 𝓤} {K : Type 0} {W : Given 𝓤 H A} {b o : ℕ} → K → Inside K W E′.mir b o u (field 3 ∷ []) (tyInt w64) (number (v .sys))
+  sys-in {𝓤} {H} {A} {W} t = record {
+    offset = _;
+    back = _;
+    finds = fld t refl (stop t);
+    part = within (ap only (LL.tells E.the-type E′.the-laws v _ is)) (sub-in t E′.mir values-struct 3 (tyInt w64) 24 refl (whole t));
+    typed = sint-lawful 𝓤 H A W w64 .typed (v .sys) _ sys-is .0;
+  }
+
+-- ---- of the device
 
 module _ {M : Type 1} {𝓤 : URA M} {H : Heap 𝓤} {A : Atoms 𝓤} {K : Type 0} {W : Given 𝓤 H A} {b o : ℕ} where
   setup-part : K → (u s : Val) → Part K W (‵ (fat fullShare D′.mir b o (vstruct (vcons u (vcons s vnil))))) fullShare U′.mir b (o + 0) u (λ w. ‵ (fat fullShare D′.mir b o (vstruct (vcons w (vcons s vnil)))))

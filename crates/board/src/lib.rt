@@ -6,12 +6,17 @@ ghost use Rattle.state.specs.Report.{reportOf};
 ghost use mathlib.Core.Bool.{false};
 ghost use Rattle.in_force.specs.InForce.{copyFits, applied};
 ghost use Rattle.answers.specs.Parts.{applies, obeys};
-ghost use Rattle.converter.specs.Call.{obeyed};
+ghost use Rattle.state.specs.Reading.{badReading};
+ghost use Rattle.converter.specs.Call.{reading, obeyed, afterCall};
+ghost use Rattle.platform.specs.Weights.{sysOf};
+ghost use Rattle.platform.specs.Platform.{AllReached, Weighing};
 ghost use Rattle.converter.specs.Reached.{Reached, Making, Reading, Serving};
 use converter::Answered;
 use converter::Device;
 use converter::Outcome;
+use converter::Samples;
 use modbus::frame::Frame;
+use platform::Weighed;
 use state::Reported;
 
 // A device of a calibration sheet and a station: 8, then 1 to 7, and a record in which every field is 0, which is no device. The
@@ -32,6 +37,58 @@ pub extern "C" fn converter_reading(device: &mut Device, elec: i64, temp: i64, i
     if state::bad_reading(elec, temp, integrity) {
         return 9;
     }
+    join(device, elec, temp, integrity);
+    0
+}
+
+// A reading of each corner of a platform (02, Change 4), of four records: 0 and the weights, in steps; or 18, zeros, and no corner takes
+// its own.
+#[no_mangle]
+pub extern "C" fn converter_weigh(
+    one: &mut Device,
+    two: &mut Device,
+    three: &mut Device,
+    four: &mut Device,
+    samples: &Samples,
+) -> Weighed
+    requires { ⌜ AllReached (record { one = now one; two = now two; three = now three; four = now four }) ⌝ }
+    ensures { λ r. ⌜ Weighing (record { one = now (one .entry); two = now (two .entry); three = now (three .entry); four = now (four .entry) }) (now (samples .entry)) (record { weighed = r; platform = record { one = now (one .exit); two = now (two .exit); three = now (three .exit); four = now (four .exit) } }) ⌝ }
+{
+    if platform::is_refused(*samples) {
+        return platform::refused();
+    }
+    let one_sys = join(
+        one,
+        samples.one.elec,
+        samples.one.temp,
+        samples.one.integrity,
+    );
+    let two_sys = join(
+        two,
+        samples.two.elec,
+        samples.two.temp,
+        samples.two.integrity,
+    );
+    let three_sys = join(
+        three,
+        samples.three.elec,
+        samples.three.temp,
+        samples.three.integrity,
+    );
+    let four_sys = join(
+        four,
+        samples.four.elec,
+        samples.four.temp,
+        samples.four.integrity,
+    );
+    platform::weights_of(one_sys, two_sys, three_sys, four_sys)
+}
+
+// A good reading joins, by steps 1 to 5: its SYS.
+fn join(device: &mut Device, elec: i64, temp: i64, integrity: u8) -> i64
+    requires { ⌜ Reached (now device) × (badReading elec temp integrity ≡ false) ⌝ }
+    ensures { λ r. ⌜ (r ≡ sysOf (now (device .exit))) × (now (device .exit) ≡ afterCall (now (device .entry)) (reading elec temp integrity)) ⌝ }
+{
     // The input is stored before the filter, by what stood before it: no register is to keep it over the reading.
     let before = device.state.readings;
     device.state.readings.input = elec;
@@ -51,7 +108,7 @@ pub extern "C" fn converter_reading(device: &mut Device, elec: i64, temp: i64, i
         integrity,
     );
     device.state = state::take(device.state, held, temp, values);
-    0
+    values.sys
 }
 
 // A bus frame, and a buffer for the reply, of which the bytes past the reply stay as they are: 0, or 10 to 17.

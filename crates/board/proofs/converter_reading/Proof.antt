@@ -1,61 +1,43 @@
--- `board::converter_reading` meets its contract: a walk of its MIR, by hand. A bad reading is refused before the record is
--- looked at. Otherwise the borrow is opened and stays open over the calls: the readings are copied and the input is stored, each call is
--- handed the parts of the figures and of the state that it takes, the state that `take` gives is stored, and the borrow is closed at the
--- device with it.
--- All that the proof knows of the six functions that are called is that they meet their contracts. Assumes nothing.
-use Rattle.figures.proofs.Cell.Laws as X′
-use Rattle.figures.proofs.Temperature.Laws as T′
-use Rattle.figures.proofs.Linearity.Laws as L′
-use Rattle.figures.proofs.System.Laws as Y′
-use Rattle.figures.proofs.Filter.Laws as I′
-use Rattle.compensation.specs.ForCode.{inputAt, cellValuesAt, valuesFrom}
-use Rattle.compensation.proofs.steps.Input.Laws as P′
-use Rattle.compensation.proofs.steps.CellValues.Laws as K′
-use Rattle.compensation.proofs.steps.Values.Laws as E′
-use Rattle.state.specs.Reading.{badReading, stateAfterValues}
-use Rattle.state.specs.ForCode.{heldAfter}
-use Rattle.state.proofs.Readings.Laws as G′
-use Rattle.state.proofs.State.Laws as S′
+-- `board::converter_reading` meets its contract: a walk of its MIR, by hand. A bad reading is refused: the record is opened and given up as
+-- it was. A good one goes to `join` with the record, for good.
+-- All that the proof knows of the two functions that are called is that they meet their contracts. Assumes nothing.
+use Rattle.state.specs.Reading.{badReading}
+use Rattle.converter.specs.Call.{reading, afterCall}
 use Rattle.converter.specs.Reached.{Reached, Reading}
 use Rattle.converter.specs.declared.Device.{Device}
 use Rattle.converter.specs.declared.Outcome.{Outcome}
-use Rattle.converter.proofs.Entries.{refuses, filters, adjusts, corrects, scales, joins}
+use Rattle.platform.specs.Weights.{sysOf}
+use Rattle.converter.proofs.Entries.{refuses, takes}
 use Rattle.converter.proofs.Device as D
-use Rattle.walks.proofs.Walk.{none, some, _≡_, refl, ℕ, _<_, _^_, [], _∷_, List, lit<, ℤ, URA, named, w8, w64, Val, vint, vptr, ofZ, SProp, ent, sep, emp, id⊢, GName, Lft, Share, ftrue, flft, fobs, fbor, Memory, Routine, Heap, Calls, Loops, WpFn, Atoms, Fun, factI, givenOf, Given, ‵, _⊛_}
-use Rattle.walks.proofs.Walk.{_$_, _∵_, !, qed, by, move, keep, drop, split, join, fsplit, fsplit3, fjoin, fjoin3, feqI, suffices, frame, done, look, init, stop, hop, fld, from, load, of-opd, no-more, assigns, first, returns, returns-within, enter, alloc1, alloc0, params1, pass1}
-use Rattle.walks.proofs.Walk.{pass0, store, Body, FmC, owns, Is, mem, uint-vals, uint-tells, uint-makes, sint-vals, sint-tells, sint-makes, sint-lawful, u8, i64, RefT, MutRef, ptr-vals, mut-tells, plain, owned, nothing, onEntry, says, needs, Stays, stay-ref, stay-none, walkOf, AllGo}
-use Rattle.walks.proofs.Walk.{goes-none, goes-ref, Walks, ends-at, walked, yes}
-use Rattle.walks.proofs.Call.{Callee, AllKnown, calls-plain, local, literal}
-use Rattle.board.proofs.Callees.{bad-reading, held-after, input-at, cell-values, values-from, take}
+use Rattle.walks.proofs.Walk.{none, some, _≡_, refl, ℕ, _<_, _^_, [], _∷_, List, lit<, ℤ, URA, named, w8, w64, Val, vint, vptr, ofZ, SProp, ent, id⊢, GName, Lft, Share, ftrue, flft, fres, Memory, Routine, Heap, Calls, Loops, WpFn, Atoms, Fun, givenOf, Given, ‵, _⊛_, ⋆, group}
+use Rattle.walks.proofs.Walk.{_$_, _∵_, !, qed, by, move, keep, drop, split, fsplit, fsplit3, fjoin, suffices, frame, done, look, init, stop, hop, from, addr, of-opd, no-more, assigns, first, returns, returns-within, enter, alloc1, alloc0, params1, pass1}
+use Rattle.walks.proofs.Walk.{pass0, FmC, owns, Is, uint-vals, uint-tells, uint-makes, sint-vals, sint-tells, sint-makes, sint-lawful, u8, i64, RefT, MutRef, ptr-vals, mut-tells, plain, owned, nothing, onEntry, gave-ref, goes-gave-ref, says, needs, Stays, stay-none, walkOf, AllGo}
+use Rattle.walks.proofs.Walk.{goes-none, Walks, ends-at, walked, yes}
+use Rattle.walks.proofs.Call.{Callee, AllKnown, calls-out, calls-plain, local, literal}
+use Rattle.board.proofs.Callees.{bad-reading}
+use Rattle.board.proofs.Handed.{join-in, to-join, join-asks}
 use Rattle.walks.proofs.Branch.{branches-on, skips-to}
 use Rattle.walks.proofs.Entered.{walk-entered}
 use Rattle.walks.proofs.Locals.{frees-all}
-use Rattle.board.proofs.Kept.{device, IsDevice, number, mach-state, mach-cell, mach-temperature, mach-linearity, mach-system, mach-filter, mach-readings, reinput, reinputted, restate, restated, five-is, readings-is, state-is}
-use Rattle.walks.proofs.Record.{opens-record, closes-record, copies}
-use Rattle.board.proofs.Record.{state-at, readings-at, input-field-at, filter-in, readings-in, temperature-in, cell-in, linearity-in, system-in, state-in, stores-input, stores-state}
+use Rattle.board.proofs.Kept.{device}
+use Rattle.walks.proofs.Record.{opens-record, gives-record}
 use Rattle.board.proofs.converter_reading.Key.{name as #board·converter-reading}
 use Rattle.board.proofs.converter_reading as f
 use Rattle.board.proofs.converter_reading.Statement as stated
 use Rattle.board.proofs.converter_reading.Code as code
 use Rattle.board.proofs.converter_reading.Code.Mir.{t-3}
 
+-- at exit: the record was given up, and its last value is known
 abbrev stayed : Stays (f.ended .signature .params) (f.ended .kept)
-stayed = (stay-ref (0 ∷ []) tt (plain (λ _. D.the-row)), (stay-none (λ _. i64) yes, (stay-none (λ _. i64) yes, (stay-none (λ _. u8) yes, tt))))
+stayed = (gave-ref (0 ∷ []) tt (plain (λ _. D.the-row)), (stay-none (λ _. i64) yes, (stay-none (λ _. i64) yes, (stay-none (λ _. u8) yes, tt))))
 
 abbrev callees : List Callee
-callees = bad-reading .callee ∷ held-after .callee ∷ input-at .callee ∷ cell-values .callee ∷ values-from .callee ∷ take .callee ∷ []
+callees = bad-reading .callee ∷ join-in ∷ []
 
 module _ {M : Type 1} (𝓤 : URA M) (H : Heap 𝓤) (A : Atoms 𝓤) (W : Given 𝓤 H A) (at-mem : Memory → SProp 𝓤) (run : Routine → Fun 𝓤) (κ : Lft) (q : Share) (b o : ℕ) (γ : GName) (h : Device) (z t : ℤ) (n : ℕ)
     (z-is : Is i64 z (vint w64 (ofZ w64 z) ∷ [])) (t-is : Is i64 t (vint w64 (ofZ w64 t) ∷ [])) (n-fits : n < 2 ^ 8) (reached : Reached h) where
   abbrev x : RefT Device × (ℤ × (ℤ × (ℕ × Unit {0})))
   x = (record { ptr = (b, o); name = γ; now = h }, (z, (t, (n, tt))))
-
-  -- with its input stored
-  abbrev g : Device
-  g = reinput h z
-
-  stands : IsDevice h → IsDevice g
-  stands was = reinputted h was z z-is
 
   abbrev numbers : List Val × (List Val × (List Val × Unit {0}))
   numbers = (vint w64 (ofZ w64 z) ∷ [], (vint w64 (ofZ w64 t) ∷ [], (vint w8 n ∷ [], tt)))
@@ -66,11 +48,10 @@ module _ {M : Type 1} (𝓤 : URA M) (H : Heap 𝓤) (A : Atoms 𝓤) (W : Given
   abbrev Post : Val → SProp 𝓤
   Post = walkOf 𝓤 H A f.ended stayed (f.clauses 𝓤 H A at-mem run) .post (((κ, tt), (q, tt), tt, x, at), tt)
 
-  exits : (r : Outcome) → r .number < 2 ^ 8 → Reading h z t n r → ent 𝓤 (sep 𝓤 (A .obs γ (D.the-row .coded .code (r .device))) (sep 𝓤 (A .bor κ (Body (mem D.the-row) b o γ)) (A .lft κ q))) (Post (vint w8 (r .number)))
+  exits : (r : Outcome) → r .number < 2 ^ 8 → Reading h z t n r → ent 𝓤 (⋆ 𝓤 H A (‵ (fres γ (D.the-row .coded .code (r .device))) ∷ (‵ (flft κ q) ⊛ ‵ ftrue) ∷ [])) (Post (vint w8 (r .number)))
   exits r fits e =
-      qed W (‵ (fobs γ (D.the-row .coded .code (r .device))) ∷ ‵ (fbor κ (Body (mem D.the-row) b o γ)) ∷ ‵ (flft κ q) ∷ []) ∵
-      suffices ! _ (ends-at 𝓤 H A f.ended stayed (f.clauses 𝓤 H A at-mem run) W (((κ, tt), (q, tt), tt, x, at), tt) (vint w8 (r .number)) (r .number) (r .device, (tt, (tt, (tt, tt)))) (tt, (tt, (tt, (tt, tt))))) $ says ! e $
-      nothing ! $ move ! (3 ∷ 0 ∷ []) $ join ! $ frame ! $ feqI ! (List Val) (vptr b o ∷ []) (vptr b o ∷ []) refl $ fjoin3 ! $
+      qed W (‵ (fres γ (D.the-row .coded .code (r .device))) ∷ (‵ (flft κ q) ⊛ ‵ ftrue) ∷ []) ∵
+      suffices ! _ (ends-at 𝓤 H A f.ended stayed (f.clauses 𝓤 H A at-mem run) W (((κ, tt), (q, tt), tt, x, at), tt) (vint w8 (r .number)) (r .number) (r .device, (tt, (tt, (tt, tt)))) (tt, (tt, (tt, (tt, tt))))) $ says ! e $ move ! (1 ∷ []) $ frame ! $
       nothing ! $ owned ! u8 (Is u8) (uint-makes 𝓤 H A W w8) n _ (refl, n-fits) $ fjoin ! $ owned ! i64 (Is i64) (sint-makes 𝓤 H A W w64) t _ t-is $ fjoin ! $ owned ! i64 (Is i64) (sint-makes 𝓤 H A W w64) z _ z-is $ fjoin ! $ move ! (1 ∷ 0 ∷ []) $ fjoin ! $
       owned ! u8 (Is u8) (uint-makes 𝓤 H A W w8) (r .number) _ (refl, fits) $ move ! (1 ∷ 0 ∷ []) $ done !
 
@@ -78,46 +59,23 @@ module _ {M : Type 1} (𝓤 : URA M) (H : Heap 𝓤) (A : Atoms 𝓤) (W : Given
     walk : ent 𝓤 (onEntry 𝓤 H A f.signature (κ, tt) (q, tt) x at) (WpFn 𝓤 H C Λ code.function (vptr b o ∷ vint w64 (ofZ w64 z) ∷ vint w64 (ofZ w64 t) ∷ vint w8 n ∷ []) Post)
     walk =
         qed W ((‵ (flft κ q) ⊛ ‵ ftrue) ∷ ‵ (owns (MutRef (named 0) κ D.the-row ∷ i64 ∷ i64 ∷ u8 ∷ []) x at) ∷ []) ∵ enter ! C Λ code.function (vptr b o ∷ vint w64 (ofZ w64 z) ∷ vint w64 (ofZ w64 t) ∷ vint w8 n ∷ []) _ $
-        alloc1 ! (λ l₀. alloc1 ! (λ l₁. alloc1 ! (λ l₂. alloc1 ! (λ l₃. alloc1 ! (λ l₄. alloc1 ! {τ = G′.mir} (λ l₅. alloc1 ! (λ l₆. alloc1 ! {τ = P′.mir} (λ l₇. alloc1 ! {τ = K′.mir} (λ l₈. alloc1 ! {τ = E′.mir} (λ l₉. alloc1 ! (λ l₁₀. alloc1 ! {τ = I′.mir}
-        (λ l₁₁. alloc1 ! {τ = T′.mir} (λ l₁₂. alloc1 ! {τ = X′.mir} (λ l₁₃. alloc1 ! {τ = L′.mir} (λ l₁₄. alloc1 ! {τ = Y′.mir} (λ l₁₅. alloc1 ! {τ = S′.mir} (λ l₁₆. alloc1 ! {τ = S′.mir} (λ l₁₇. alloc0 ! $ params1 ! $
-        pass1 ! (init ! 32 refl (tt, tt)) $ pass1 ! (init ! 30 refl (sint-lawful 𝓤 H A W w64 .typed z _ z-is .0)) $ pass1 ! (init ! 28 refl (sint-lawful 𝓤 H A W w64 .typed t _ t-is .0)) $ pass1 ! (init ! 26 refl (tt, record { fits = n-fits })) $ pass0 ! $
-        move ! (37 ∷ []) $ fsplit ! $ fsplit3 ! $ drop ! $ move ! (2 ∷ []) $ drop ! $ move ! (38 ∷ []) $ split ! $ move ! (2 ∷ 3 ∷ 0 ∷ []) $
-        -- [obs; the borrow; its token; true; _17; …; _1; …; room for _0; …]
+        alloc1 ! (λ l₀. alloc1 ! (λ l₁. alloc1 ! (λ l₂. alloc1 ! (λ l₃. alloc1 ! (λ l₄. alloc1 ! (λ l₅. alloc1 ! (λ l₆. alloc1 ! (λ l₇. alloc0 ! $ params1 ! $
+        pass1 ! (init ! 12 refl (tt, tt)) $ pass1 ! (init ! 10 refl (sint-lawful 𝓤 H A W w64 .typed z _ z-is .0)) $ pass1 ! (init ! 8 refl (sint-lawful 𝓤 H A W w64 .typed t _ t-is .0)) $ pass1 ! (init ! 6 refl (tt, record { fits = n-fits })) $ pass0 ! $
+        move ! (17 ∷ []) $ fsplit ! $ fsplit3 ! $ drop ! $ move ! (2 ∷ []) $ drop ! $ move ! (18 ∷ []) $ split ! $ move ! (2 ∷ 3 ∷ 0 ∷ []) $
+        -- [obs; the borrow; its token; true; _7; …; _1; …; room for _0; …]
         calls-plain ! fm bad-reading (known-of .0) (tt, tt, tt, (z, (t, (n, tt))), numbers) tt (id⊢ 𝓤 _) (z-is, (t-is, ((refl, n-fits), tt))) (id⊢ 𝓤 _) (λ r. r ≡ badReading z t n) (λ r e. id⊢ 𝓤 _)
-        (local ! 39 refl (local ! 39 refl (local ! 39 refl (no-more !)))) 18 refl refl (λ v bad bad-is is. first ! $ branches-on ! (look ! 18 refl) is bad-is
-        (λ held. assigns ! (of-opd ! (literal ! 9 tt tt)) (from ! (stop !)) (init ! 38 refl (tt, record { fits = lit< tt })) $
-        returns-within ! Post refl (look ! 38 refl) $ frees-all ! 4 (some _ ∷ some _ ∷ some _ ∷ some _ ∷ some _ ∷ none ∷ none ∷ none ∷ none ∷ none ∷ some _ ∷ []) refl $
-        keep ! (0 ∷ 1 ∷ 2 ∷ []) $ by ! (exits (record { number = 9; device = h }) (lit< tt) (refuses reached z t n held)))
-        (λ good. skips-to ! t-3 Post $ opens-record device ! tt h (λ was.
-        -- [the record's cell; the open borrow; obs; auth; true; _17; …]
-        copies ! 0 refl (readings-in h ! was) (look ! 37 refl) (init ! 29 refl) $
-        assigns ! (of-opd ! (load ! (from ! (stop !)) (look ! 35 refl))) (from ! (hop ! (look ! 37 refl) (fld ! state-at (fld ! readings-at (fld ! input-field-at (stop !)))))) (stores-input ! 0 h refl was z z-is) $
-        -- the record is that of `g` from here on
-        copies ! 0 refl (filter-in g ! (stands was)) (look ! 37 refl) (init ! 17 refl) $
-        calls-plain ! fm held-after (known-of .1 .0) (tt, tt, tt, (h .setup .figures .filter, (h .state .readings, (z, tt))), (mach-filter (h .setup .figures .filter) ∷ [], (mach-readings (h .state .readings) ∷ [], (number z ∷ [], tt)))) tt (id⊢ 𝓤 _)
-        (five-is h was .1 .1 .1 .1 .0, (readings-is h was, (z-is, tt))) (factI 𝓤 _ (emp 𝓤) (filters reached z t n good)) (λ k. k ≡ heldAfter (h .setup .figures) (h .state .readings) z) (λ k e. id⊢ 𝓤 _)
-        (local ! 40 refl (local ! 40 refl (local ! 40 refl (no-more !)))) 27 refl refl (λ vk k k-is k-fits.
-        copies ! 0 refl (temperature-in g ! (stands was)) (look ! 37 refl) (init ! 15 refl) $
-        calls-plain ! fm input-at (known-of .1 .1 .0) (tt, tt, tt, (h .setup .figures .temperature, (k, (t, tt))), (mach-temperature (h .setup .figures .temperature) ∷ [], (vk ∷ [], (number t ∷ [], tt)))) tt (id⊢ 𝓤 _)
-        (five-is h was .1 .0, (k-fits, (t-is, tt))) (factI 𝓤 _ (emp 𝓤) (adjusts reached z t n good)) (λ i. i ≡ inputAt (h .setup .figures .temperature) k t) (λ i e. id⊢ 𝓤 _)
-        (local ! 40 refl (local ! 40 refl (local ! 40 refl (no-more !)))) 25 refl refl (λ vi i i-is i-fits.
-        copies ! 0 refl (cell-in g ! (stands was)) (look ! 37 refl) (init ! 13 refl) $ copies ! 0 refl (linearity-in g ! (stands was)) (look ! 37 refl) (init ! 11 refl) $
-        calls-plain ! fm cell-values (known-of .1 .1 .1 .0) (tt, tt, tt, (h .setup .figures .cell, (h .setup .figures .linearity, (i, tt))), (mach-cell (h .setup .figures .cell) ∷ [], (mach-linearity (h .setup .figures .linearity) ∷ [], (vi ∷ [], tt)))) tt (id⊢ 𝓤 _)
-        (five-is h was .0, (five-is h was .1 .1 .0, (i-fits, tt))) (factI 𝓤 _ (emp 𝓤) (corrects reached z t n good k-is i-is)) (λ c. c ≡ cellValuesAt (h .setup .figures .cell) (h .setup .figures .linearity) i) (λ c e. id⊢ 𝓤 _)
-        (local ! 40 refl (local ! 40 refl (local ! 40 refl (no-more !)))) 23 refl refl (λ vc c c-is c-fits.
-        copies ! 0 refl (cell-in g ! (stands was)) (look ! 37 refl) (store ! 13 refl) $ copies ! 0 refl (system-in g ! (stands was)) (look ! 37 refl) (init ! 9 refl) $
-        calls-plain ! fm values-from (known-of .1 .1 .1 .1 .0)
-        (tt, tt, tt, (h .setup .figures .cell, (h .setup .figures .system, (c, (k, (t, (n, tt)))))), (mach-cell (h .setup .figures .cell) ∷ [], (mach-system (h .setup .figures .system) ∷ [], (vc ∷ [], (vk ∷ [], (number t ∷ [], (vint w8 n ∷ [], tt))))))) tt (id⊢ 𝓤 _)
-        (five-is h was .0, (five-is h was .1 .1 .1 .0, (c-fits, (k-fits, (t-is, ((refl, n-fits), tt)))))) (factI 𝓤 _ (emp 𝓤) (scales reached z t n good k-is i-is c-is)) (λ w. w ≡ valuesFrom (h .setup .figures .cell) (h .setup .figures .system) c k t n) (λ w e. id⊢ 𝓤 _)
-        (local ! 40 refl (local ! 40 refl (local ! 40 refl (local ! 40 refl (local ! 40 refl (local ! 40 refl (no-more !))))))) 21 refl refl (λ vw w w-is w-fits.
-        copies ! 0 refl (state-in g ! (stands was)) (look ! 37 refl) (init ! 5 refl) $
-        calls-plain ! fm take (known-of .1 .1 .1 .1 .1 .0) (tt, tt, tt, (g .state, (k, (t, (w, tt)))), (mach-state (g .state) ∷ [], (vk ∷ [], (number t ∷ [], (vw ∷ [], tt))))) tt (id⊢ 𝓤 _)
-        (state-is g (stands was), (k-fits, (t-is, (w-fits, tt)))) (id⊢ 𝓤 _) (λ r. r ≡ stateAfterValues (g .state) (record { input = z; held = k }) t w) (λ r e. id⊢ 𝓤 _)
-        (local ! 40 refl (local ! 40 refl (local ! 40 refl (local ! 40 refl (no-more !))))) 7 refl refl (λ vr r r-is state.
-        assigns ! (of-opd ! (load ! (from ! (stop !)) (look ! 7 refl))) (from ! (hop ! (look ! 37 refl) (fld ! state-at (stop !)))) (stores-state ! 0 g refl (stands was) r state) $
-        assigns ! (of-opd ! (literal ! 0 tt tt)) (from ! (stop !)) (init ! 39 refl (tt, record { fits = lit< tt })) $ closes-record device ! tt (restate g r) (restated g (stands was) r state) $
-        returns ! (look ! 38 refl) $ frees-all ! 4 (some _ ∷ some _ ∷ some _ ∷ some _ ∷ some _ ∷ some _ ∷ some _ ∷ some _ ∷ some _ ∷ some _ ∷ some _ ∷ some _ ∷ some _ ∷ some _ ∷ some _ ∷ some _ ∷ some _ ∷ some _ ∷ []) refl $
-        keep ! (0 ∷ 1 ∷ 2 ∷ []) $ by ! (exits (record { number = 0; device = restate h r }) (lit< tt) (joins reached z t n good k-is i-is c-is w-is refl r-is))))))))))))))))))))))))))))
+        (local ! 19 refl (local ! 19 refl (local ! 19 refl (no-more !)))) 8 refl refl (λ v bad bad-is is. first ! $ branches-on ! (look ! 8 refl) is bad-is
+        (λ held. assigns ! (of-opd ! (literal ! 9 tt tt)) (from ! (stop !)) (init ! 18 refl (tt, record { fits = lit< tt })) $ opens-record device ! tt h (λ was. gives-record device ! tt h was $
+        returns-within ! Post refl (look ! 17 refl) $ frees-all ! 3 (some _ ∷ some _ ∷ some _ ∷ some _ ∷ some _ ∷ some _ ∷ []) refl $
+        keep ! (0 ∷ 1 ∷ []) $ by ! (exits (record { number = 9; device = h }) (lit< tt) (refuses reached z t n held))))
+        (λ good. skips-to ! t-3 Post $ assigns ! (addr ! (from ! (hop ! (look ! 16 refl) (stop !)))) (from ! (stop !)) (init ! 4 refl (tt, tt)) $ group ! 3 $
+        -- [what `join` asks; true; _7; …]
+        calls-out ! fm join-in (known-of .1 .0) (to-join 𝓤 H A κ q b o γ h z t n) tt (join-asks 𝓤 H A W at-mem run κ q b o γ h z t n z-is t-is n-fits reached good) (λ y ds. (y ≡ sysOf (ds .0)) × (ds .0 ≡ afterCall h (reading z t n))) (λ y ds. id⊢ 𝓤 _)
+        (local ! 16 refl (local ! 16 refl (local ! 16 refl (local ! 16 refl (no-more !))))) 3 refl refl (λ vy y ds joined y-is. fsplit ! $ move ! (1 ∷ []) $ drop ! $
+        -- [the record's last value; its token; true; _7; …]
+        assigns ! (of-opd ! (literal ! 0 tt tt)) (from ! (stop !)) (init ! 17 refl (tt, record { fits = lit< tt })) $
+        returns ! (look ! 17 refl) $ frees-all ! 3 (some _ ∷ some _ ∷ some _ ∷ some _ ∷ some _ ∷ some _ ∷ some _ ∷ some _ ∷ []) refl $
+        keep ! (0 ∷ 1 ∷ []) $ by ! (exits (record { number = 0; device = ds .0 }) (lit< tt) (takes reached z t n good (joined .1))))))))))))))
 
 module _ {M : Type 1} (𝓤 : URA M) (H : Heap 𝓤) (A : Atoms 𝓤) (W : Given 𝓤 H A) (mem : Memory → SProp 𝓤) (run : Routine → Fun 𝓤) where
   walks : (C : Calls 𝓤 H) (Λ : Loops 𝓤 H) → FmC 𝓤 H (W .laws) C → AllKnown 𝓤 H A mem run C callees → Walks 𝓤 H A f.ended stayed (WpFn 𝓤 H C Λ code.function) (f.clauses 𝓤 H A mem run)
@@ -126,12 +84,12 @@ module _ {M : Type 1} (𝓤 : URA M) (H : Heap 𝓤) (A : Atoms 𝓤) (W : Given
       (λ κs qs bounds a _ are. needs 𝓤 (Reached (a .0 .now)) _ (λ reached. walk 𝓤 H A W mem run (κs .0) (qs .0) (a .0 .ptr .0) (a .0 .ptr .1) (a .0 .name) (a .0 .now) (a .1 .0) (a .1 .1 .0) (a .1 .1 .1 .0) (are .1 .0) (are .1 .1 .0) (are .1 .1 .1 .0 .1) reached C Λ fm known-of))
 
   goes : AllGo 𝓤 H A W 1 (f.signature .params) (f.ended .kept) stayed
-  goes = (goes-ref 𝓤 H A W 1 0 tt (plain (λ _. D.the-row)), (goes-none 𝓤 H A W 1 (λ _. i64) yes (λ κs x f. refl), (goes-none 𝓤 H A W 1 (λ _. i64) yes (λ κs x f. refl), (goes-none 𝓤 H A W 1 (λ _. u8) yes (λ κs x f. refl), tt))))
+  goes = (goes-gave-ref 𝓤 H A W 1 0 tt (plain (λ _. D.the-row)), (goes-none 𝓤 H A W 1 (λ _. i64) yes (λ κs x f. refl), (goes-none 𝓤 H A W 1 (λ _. i64) yes (λ κs x f. refl), (goes-none 𝓤 H A W 1 (λ _. u8) yes (λ κs x f. refl), tt))))
 
 pub converter-reading-spec : {M : Type 1} → stated.statement M
 unfolding code.routine
 converter-reading-spec 𝓤 H 𝓜 𝓖 𝓡 =
     let W = givenOf 𝓤 H 𝓜 𝓖 in
     walk-entered 𝓤 H 𝓜 𝓖 𝓡 code.env #board·converter-reading code.function (code.unfolded 𝓤 H 𝓜 𝓡) callees
-    (code.calls-state·bad-reading, (code.calls-state·held-after, (code.calls-compensation·input-at, (code.calls-compensation·cell-values, (code.calls-compensation·values-from, (code.calls-state·take, tt))))))
+    (code.calls-state·bad-reading, (code.calls-board·join, tt))
     f.ended (f.clauses 𝓤 H (𝓖 .A) (𝓜 .mem) (𝓡 .run)) stayed (goes 𝓤 H (𝓖 .A) W (𝓜 .mem) (𝓡 .run)) (walks 𝓤 H (𝓖 .A) W (𝓜 .mem) (𝓡 .run))
