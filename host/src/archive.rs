@@ -29,12 +29,23 @@ record!(Outcome { number: u8, device: Device });
 record!(Report { sys: f32, peak: f32, trof: f32, cell: f32 });
 record!(Reported { number: u8, report: Report });
 record!(Answered { number: u8, length: usize });
+record!(Sample { elec: i64, temp: i64, integrity: u8 });
+record!(Samples { one: Sample, two: Sample, three: Sample, four: Sample });
+record!(Weights { one: i64, two: i64, three: i64, four: i64, total: i64, left: i64, right: i64, difference: i64 });
+record!(Weighed { number: u8, weights: Weights });
 
 extern "C" {
     fn converter_make(sheet: *const u8, length: usize, station: u8) -> Outcome;
     fn converter_reading(device: *mut Device, elec: i64, temp: i64, integrity: u8) -> u8;
     fn converter_report(device: *const Device) -> Reported;
     fn converter_frame(device: *mut Device, frame: *const u8, length: usize, reply: *mut u8, room: usize) -> Answered;
+    fn converter_weigh(
+        one: *mut Device,
+        two: *mut Device,
+        three: *mut Device,
+        four: *mut Device,
+        samples: *const Samples,
+    ) -> Weighed;
 }
 
 // Each call lends live Rust memory with its true length for the time of the call only.
@@ -57,6 +68,14 @@ impl Converter for Device {
     fn frame(&mut self, frame: &[u8], reply: &mut [u8]) -> (u8, usize) {
         let answered = unsafe { converter_frame(self, frame.as_ptr(), frame.len(), reply.as_mut_ptr(), reply.len()) };
         (answered.number, answered.length)
+    }
+
+    fn weigh([one, two, three, four]: [&mut Device; 4], samples: [model::Sample; 4]) -> (u8, model::Weights) {
+        let [s1, s2, s3, s4] = samples.map(|(elec, temp, integrity)| Sample { elec, temp, integrity });
+        let samples = Samples { one: s1, two: s2, three: s3, four: s4 };
+        let Weighed { number, weights } = unsafe { converter_weigh(one, two, three, four, &samples) };
+        let Weights { one, two, three, four, total, left, right, difference } = weights;
+        (number, model::Weights { corners: [one, two, three, four], total, left, right, difference })
     }
 
     fn state(&self) -> model::Device {

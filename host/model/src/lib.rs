@@ -1,4 +1,4 @@
-//! The load cell converter of paper 01, with Changes 1 and 2 of paper 02, in plain Rust, written from the papers alone.
+//! The load cell converter of paper 01, with Changes 1, 2 and 4 of paper 02, in plain Rust, written from the papers alone.
 //!
 //! Whole numbers are steps (1/65,536 of a unit) and gains (1/2^28) in `i64`; the widest product,
 //! (CELL - SOFS) x SGAI, is at most 4,259,840,000 x 2^31, which fits. Nothing here uses the heap.
@@ -7,11 +7,13 @@ pub mod bench;
 mod bus;
 mod device;
 pub mod panel;
+mod platform;
 pub mod sheet;
 pub mod value;
 
 pub use bus::crc16;
 pub use device::{Device, Reading};
+pub use platform::{weigh, Sample, Weights};
 pub use sheet::Figures;
 
 /// Why a call was turned down, by the papers' numbers.
@@ -35,6 +37,7 @@ pub enum Refusal {
     Address = 15,
     Value = 16,
     UnfitCopy = 17,
+    CornerRefused = 18,
 }
 
 pub type Result<T> = core::result::Result<T, Refusal>;
@@ -56,6 +59,8 @@ pub trait Converter: Clone + PartialEq + Default {
     fn report(&mut self) -> (u8, [u32; 4]);
     /// The number and the length replied.
     fn frame(&mut self, frame: &[u8], reply: &mut [u8]) -> (u8, usize);
+    /// The number and the weights of a reading at each corner, 1 to 4. No record can be lent twice, so they are four.
+    fn weigh(corners: [&mut Self; 4], samples: [Sample; 4]) -> (u8, Weights);
     /// The record in the model's form; what the paper leaves free is left out.
     fn state(&self) -> Device;
 }
@@ -79,6 +84,11 @@ impl Converter for Device {
 
     fn frame(&mut self, frame: &[u8], reply: &mut [u8]) -> (u8, usize) {
         self.answer(frame, reply)
+    }
+
+    fn weigh(corners: [&mut Device; 4], samples: [Sample; 4]) -> (u8, Weights) {
+        let weighed = weigh(corners, samples);
+        (number(&weighed), weighed.unwrap_or_default())
     }
 
     fn state(&self) -> Device {

@@ -1,4 +1,6 @@
-//! The edges of paper 01, and the rules of Changes 1 and 2 of paper 02.
+//! The edges of paper 01, and the rules of Changes 1, 2 and 4 of paper 02.
+
+mod platform;
 
 use crate::bus::crc16;
 use crate::device::{filter, interpolate, round_div, scale, REBOOT};
