@@ -1,5 +1,5 @@
-/* The converter of a load cell: readings, calibration sheet and Modbus RTU (paper 01), with calibration over the bus
- * and a filter level between samples (paper 02, Changes 1 and 2), proved in Rattle.
+/* The converter of a load cell: readings, calibration sheet and Modbus RTU (paper 01), with calibration over the bus,
+ * a filter level between samples and the four corners of a platform (paper 02, Changes 1, 2 and 4), proved in Rattle.
  *
  * Link the archive libboard.a (`rt staticlib board`, x86-64). There is no heap and no global state: everything that a
  * device is stands in one record that the caller keeps, for as long as it likes and where it likes. A call runs to its
@@ -8,8 +8,10 @@
  * What a caller has to keep:
  * - Pointers are not null and point to what they are said to; lengths are true.
  * - Record, frame and reply buffer of a call do not overlap, and a record is used by one call at a time.
- * - A record that is handed to converter_reading, converter_report or converter_frame is the device of an accepted
- *   converter_make, or a copy of such a record, changed by these calls alone.
+ * - The four records of converter_weigh are four different ones: no pointer is given twice, and no record overlaps
+ *   another or the samples. Stations may be equal.
+ * - A record that is handed to converter_reading, converter_report, converter_frame or converter_weigh is the device of
+ *   an accepted converter_make, or a copy of such a record, changed by these calls alone.
  * - Floats are in the default mode of IEEE 754. Round to nearest: in another mode a sent value beyond +-256, or a gain
  *   or gain adjustment beyond +-1/16, may differ in its last bit. No traps: a call may raise inexact and denormal.
  * Nothing else is asked: every byte and every number is taken, and what does not fit is refused with a number.
@@ -19,7 +21,7 @@
  *
  * Symbols that the archive needs: memset. (The caller's compiler may ask for memcpy, to assign a record.)
  * Bytes of stack, at most, return address and red zone included: converter_make 1536, and what memset takes;
- * converter_reading 128; converter_report 64; converter_frame 1536. */
+ * converter_reading 128; converter_report 64; converter_frame 1536; converter_weigh 256. */
 #ifndef CONVERTER_H
 #define CONVERTER_H
 
@@ -35,28 +37,29 @@ extern "C" {
 
 /* Another MAJOR: code that was compiled with the older header must not be linked with this archive. */
 #define CONVERTER_VERSION_MAJOR 3
-#define CONVERTER_VERSION_MINOR 0
-#define CONVERTER_VERSION_PATCH 1
+#define CONVERTER_VERSION_MINOR 1
+#define CONVERTER_VERSION_PATCH 0
 
 /* Numbers of refusal; 0 is an accepted call. */
 enum {
-    CONVERTER_SHORT_SHEET = 1,   /* it ends before a count or figure that is due */
-    CONVERTER_WRONG_COUNT = 2,   /* a section's count is not the table's */
-    CONVERTER_FIGURE = 3,        /* a figure is beyond its range */
-    CONVERTER_ORDER = 4,         /* CT or CLX not above the one before */
-    CONVERTER_TOO_STEEP = 5,     /* the CLK rule broken */
-    CONVERTER_CROSSED = 6,       /* CMIN not below CMAX, or SMIN not below SMAX */
-    CONVERTER_TRAILING = 7,      /* bytes after the last section */
-    CONVERTER_STATION = 8,       /* not 1 to 247 */
-    CONVERTER_BAD_READING = 9,   /* ELEC, TEMP or the integrity byte beyond its range */
-    CONVERTER_NO_READING = 10,   /* before the first reading since start or RST */
-    CONVERTER_NO_SNAPSHOT = 11,  /* SYSN read with none taken */
-    CONVERTER_SHORT_BUFFER = 12, /* reply buffer under 9 bytes */
-    CONVERTER_NOT_FOR_US = 13,   /* too short or long, wrong checksum, other station, or a broadcast read */
-    CONVERTER_FUNCTION = 14,     /* not 3 or 16 */
-    CONVERTER_ADDRESS = 15,      /* odd, or not twice a listed register */
-    CONVERTER_VALUE = 16,        /* wrong length, quantity or byte count, read-only, or an unfit value */
-    CONVERTER_UNFIT_COPY = 17    /* a sheet with the figures of the waiting copy would be refused */
+    CONVERTER_SHORT_SHEET = 1,    /* it ends before a count or figure that is due */
+    CONVERTER_WRONG_COUNT = 2,    /* a section's count is not the table's */
+    CONVERTER_FIGURE = 3,         /* a figure is beyond its range */
+    CONVERTER_ORDER = 4,          /* CT or CLX not above the one before */
+    CONVERTER_TOO_STEEP = 5,      /* the CLK rule broken */
+    CONVERTER_CROSSED = 6,        /* CMIN not below CMAX, or SMIN not below SMAX */
+    CONVERTER_TRAILING = 7,       /* bytes after the last section */
+    CONVERTER_STATION = 8,        /* not 1 to 247 */
+    CONVERTER_BAD_READING = 9,    /* ELEC, TEMP or the integrity byte beyond its range */
+    CONVERTER_NO_READING = 10,    /* before the first reading since start or RST */
+    CONVERTER_NO_SNAPSHOT = 11,   /* SYSN read with none taken */
+    CONVERTER_SHORT_BUFFER = 12,  /* reply buffer under 9 bytes */
+    CONVERTER_NOT_FOR_US = 13,    /* too short or long, wrong checksum, other station, or a broadcast read */
+    CONVERTER_FUNCTION = 14,      /* not 3 or 16 */
+    CONVERTER_ADDRESS = 15,       /* odd, or not twice a listed register */
+    CONVERTER_VALUE = 16,         /* wrong length, quantity or byte count, read-only, or an unfit value */
+    CONVERTER_UNFIT_COPY = 17,    /* a sheet with the figures of the waiting copy would be refused */
+    CONVERTER_CORNER_REFUSED = 18 /* any of a platform's four readings would be 9 */
 };
 
 /* Registers, as wire addresses: what stands in a frame, twice 004's register number. Of a table's column it is the
@@ -147,6 +150,11 @@ typedef struct { bool taken; int64_t sysn; } converter_snapshot;
 typedef struct { converter_readings readings; uint16_t flag; converter_snapshot snapshot; } converter_state;
 typedef struct { converter_setup setup; converter_state state; } converter_device;
 
+/* ---- What converter_weigh takes: for each corner what converter_reading takes. */
+
+typedef struct { int64_t elec, temp; uint8_t integrity; } converter_sample;
+typedef struct { converter_sample one, two, three, four; } converter_samples;
+
 /* ---- What calls answer. */
 
 /* The number, and the device; beside a refusal a record in which every field is 0, which is no device. */
@@ -159,6 +167,12 @@ typedef struct { uint8_t number; converter_report_values report; } converter_rep
 
 /* The number, and how many bytes were put at the front of the reply buffer, 0 for none. */
 typedef struct { uint8_t number; size_t length; } converter_answered;
+
+/* In steps: SYS of each corner, their total, left (one and three), right (two and four), and left less right. */
+typedef struct { int64_t one, two, three, four, total, left, right, difference; } converter_weights;
+
+/* The number, and the weights, 0 each beside a refusal. */
+typedef struct { uint8_t number; converter_weights weights; } converter_weighed;
 
 /* ---- The calls. */
 
@@ -180,6 +194,11 @@ converter_reported converter_report(const converter_device *device);
  * buffer past the reply are untouched. */
 converter_answered converter_frame(converter_device *device, const uint8_t *frame, size_t length, uint8_t *reply,
                                    size_t room);
+
+/* Four corners of a platform: a reading at each, all four or none. Answers 0 and the weights, and each device has taken
+ * its corner's reading as by converter_reading; or 18, and the four records are as they were. */
+converter_weighed converter_weigh(converter_device *one, converter_device *two, converter_device *three,
+                                  converter_device *four, const converter_samples *samples);
 
 /* ---- The archive's layout: does this compiler lay the records out the same? Where not, an array has length -1. */
 
@@ -213,6 +232,13 @@ CONVERTER_SIZE(answered, 16); CONVERTER_AT(answered, length, 8);
 CONVERTER_SIZE(report_values, 16); CONVERTER_AT(report_values, peak, 4); CONVERTER_AT(report_values, trof, 8);
 CONVERTER_AT(report_values, cell, 12);
 CONVERTER_SIZE(reported, 20); CONVERTER_AT(reported, report, 4);
+CONVERTER_SIZE(sample, 24); CONVERTER_AT(sample, temp, 8); CONVERTER_AT(sample, integrity, 16);
+CONVERTER_SIZE(samples, 96); CONVERTER_AT(samples, two, 24); CONVERTER_AT(samples, three, 48);
+CONVERTER_AT(samples, four, 72);
+CONVERTER_SIZE(weights, 64); CONVERTER_AT(weights, two, 8); CONVERTER_AT(weights, three, 16);
+CONVERTER_AT(weights, four, 24); CONVERTER_AT(weights, total, 32); CONVERTER_AT(weights, left, 40);
+CONVERTER_AT(weights, right, 48); CONVERTER_AT(weights, difference, 56);
+CONVERTER_SIZE(weighed, 72); CONVERTER_AT(weighed, weights, 8);
 
 #undef CONVERTER_SIZE
 #undef CONVERTER_AT

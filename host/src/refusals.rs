@@ -21,6 +21,7 @@ pub fn meaning(number: u8) -> &'static str {
         15 => "address: odd, or not twice a listed register",
         16 => "value: length, quantity, byte count, a read-only register, or an unfit value",
         17 => "unfit copy: a sheet with the figures of the waiting copy would be refused",
+        18 => "corner refused: one of the four readings would be 9, bad reading",
         _ => "no such number",
     }
 }
