@@ -3,7 +3,7 @@
 use host::tool::{failed, run, Failure};
 use host::{Converter, FILL, WITH_ARCHIVE};
 use model::sheet::{self, LinearityPoint, TemperaturePoint};
-use model::{number, Figures};
+use model::{number, Figures, Sample};
 use std::path::{Path, PathBuf};
 use std::str::FromStr;
 use std::{fs, process::ExitCode};
@@ -97,14 +97,61 @@ fn make<C: Converter>(device: &mut C, sheet: &[u8], station: u8) -> String {
     number.to_string()
 }
 
+/// The devices of a scenario; `meant` is the one that the lines mean.
+struct Scenario<C> {
+    devices: [C; DEVICES],
+    meant: usize,
+}
+
+const DEVICES: usize = 8;
+
+impl<C: Converter> Scenario<C> {
+    fn new() -> Scenario<C> {
+        Scenario { devices: [(); DEVICES].map(|()| C::default()), meant: 0 }
+    }
+}
+
+/// Where device K stands.
+fn place(k: &str) -> Result<usize, String> {
+    let at: usize = parsed(k, "a device")?;
+    if (1..=DEVICES).contains(&at) {
+        Ok(at - 1)
+    } else {
+        Err(format!("not a device of 1 to {DEVICES}: {at}"))
+    }
+}
+
+fn sample([elec, temp, integrity]: [&str; 3]) -> Result<Sample, String> {
+    Ok((parsed(elec, "ELEC")?, parsed(temp, "TEMP")?, parsed(integrity, "an integrity byte")?))
+}
+
+/// A reading at each of four devices: `K K K K (ELEC TEMP INTEGRITY)x4`, in the order of the corners.
+fn corners<C: Converter>(devices: &mut [C], words: &[&str]) -> Result<String, String> {
+    let parts = words.split_first_chunk::<4>().map(|(k, numbers)| (k, numbers.as_chunks::<3>()));
+    let Some((k, (&[s1, s2, s3, s4], []))) = parts else {
+        return Err(format!("not four devices and four readings: {}", short(&words.join(" "))));
+    };
+    let places = [place(k[0])?, place(k[1])?, place(k[2])?, place(k[3])?];
+    let samples = [sample(s1)?, sample(s2)?, sample(s3)?, sample(s4)?];
+    let corners = devices.get_disjoint_mut(places).map_err(|_| format!("a device twice: {}", k.join(" ")))?;
+    if corners.iter().any(|device| **device == C::default()) {
+        return Err(format!("a device that was not made: {}", k.join(" ")));
+    }
+    let (number, w) = C::weigh(corners, samples);
+    let [one, two, three, four] = w.corners;
+    Ok(format!("{number} {one} {two} {three} {four} {} {} {} {}", w.total, w.left, w.right, w.difference))
+}
+
 /// What a call gives, as a line of the vectors has it; or what is wrong with the line.
-fn found<C: Converter>(device: &mut C, words: &[&str]) -> Result<String, String> {
+fn found<C: Converter>(scenario: &mut Scenario<C>, words: &[&str]) -> Result<String, String> {
+    let device = &mut scenario.devices[scenario.meant];
     Ok(match *words {
         ["make", sheet, station] => make(device, &bytes(sheet)?, parsed(station, "a station")?),
         ["reading", elec, temp, integrity] => {
-            let (elec, temp) = (parsed(elec, "ELEC")?, parsed(temp, "TEMP")?);
-            device.reading(elec, temp, parsed(integrity, "an integrity byte")?).to_string()
+            let (elec, temp, integrity) = sample([elec, temp, integrity])?;
+            device.reading(elec, temp, integrity).to_string()
         }
+        ["corners", ref words @ ..] => corners(&mut scenario.devices, words)?,
         ["report"] => {
             let (number, [sys, peak, trof, cell]) = device.report();
             format!("{number} {sys:08x} {peak:08x} {trof:08x} {cell:08x}")
@@ -128,16 +175,18 @@ fn found<C: Converter>(device: &mut C, words: &[&str]) -> Result<String, String>
 }
 
 fn scenarios<C: Converter>(text: &str, with_sheets: bool, tally: &mut Tally) -> Result<(), String> {
-    let mut device = C::default();
+    let mut scenario = Scenario::<C>::new();
     for (line, at) in text.lines().zip(1..) {
         let words: Vec<&str> = line.split(' ').collect();
+        let in_line = |wrong| format!("line {at}: {wrong}");
         match words[..] {
-            ["scenario", _] => device = C::default(),
+            ["scenario", _] => scenario = Scenario::new(),
+            ["use", k] => scenario.meant = place(k).map_err(in_line)?,
             ["read" | "write", ..] if !with_sheets => tally.left_out += 1,
             _ => {
                 let (call, expected) = line.split_once(" = ").unwrap_or((line, ""));
                 let call_words: Vec<&str> = call.split(' ').collect();
-                let found = found(&mut device, &call_words).map_err(|wrong| format!("line {at}: {wrong}"))?;
+                let found = found(&mut scenario, &call_words).map_err(in_line)?;
                 tally.check(&format!("line {at}: {call}"), &found, expected);
             }
         }
