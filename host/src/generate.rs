@@ -1,11 +1,12 @@
 //! Seeded random and adversarial calls. The model's state is looked at only to aim at the edges.
 
 mod panel;
+mod platform;
 
 use crate::{read_frame, sealed, write_frame, APPLY, REGISTERS, RST};
 use model::panel::Figure;
 use model::sheet::{self, most, LONGEST};
-use model::{Device, Figures, Reading};
+use model::{Device, Figures, Reading, Sample};
 
 /// xorshift64*.
 pub struct Rng(u64);
@@ -201,37 +202,50 @@ pub fn float_bits(rng: &mut Rng) -> u32 {
     neighbour ^ rng.pick(&[0, 0, 0x8000_0000])
 }
 
+/// A call on one device, but for the last.
 pub enum Call {
     Make(Vec<u8>, u8),
-    Reading(i64, i64, u8),
+    Reading(Sample),
     Report,
     /// A frame and the room for its reply.
     Frame(Vec<u8>, usize),
+    /// A reading at each of the four.
+    Weigh([Sample; 4]),
 }
 
-/// Makes one call after another.
+/// Makes one call after another, on four devices.
 pub struct Calls {
     rng: Rng,
-    /// A run of writes on the panel, the last one first.
+    /// The device that calls are made on for a while.
+    at: usize,
+    /// A run of writes on its panel, the last one first.
     run: Vec<panel::Write>,
 }
 
 impl Calls {
     pub fn new(seed: u64) -> Calls {
-        Calls { rng: Rng::new(seed), run: Vec::new() }
+        Calls { rng: Rng::new(seed), at: 0, run: Vec::new() }
     }
 
-    /// A call for a device in this state, and what the lent buffer holds before it; `quiet` keeps to long histories of
-    /// readings.
-    pub fn next(&mut self, d: &Device, quiet: bool) -> (Call, u8) {
-        (self.call(d, quiet), self.rng.bits() as u8)
+    /// A call for devices in this state, the one of them that it is on, and what the lent buffer holds before it; `quiet`
+    /// keeps to long histories of readings.
+    pub fn next(&mut self, devices: &[Device; 4], quiet: bool) -> (Call, usize, u8) {
+        if self.run.is_empty() && self.rng.one_in(6) {
+            self.at = self.rng.below(4) as usize;
+        }
+        let call = if let Some(unmade) = devices.iter().position(|d| d.station == 0) {
+            self.at = unmade;
+            Call::Make(sheet(&figures(&mut self.rng)), self.rng.range(1, 247) as u8)
+        } else if self.rng.one_in(12) {
+            platform::weigh(&mut self.rng, devices)
+        } else {
+            self.call(&devices[self.at], quiet)
+        };
+        (call, self.at, self.rng.bits() as u8)
     }
 
     fn call(&mut self, d: &Device, quiet: bool) -> Call {
         let rng = &mut self.rng;
-        if d.station == 0 {
-            return Call::Make(sheet(&figures(rng)), rng.range(1, 247) as u8);
-        }
         // Between the writes of a run come other calls.
         let next = if rng.one_in(6) { None } else { self.run.pop() };
         if let Some((register, bits)) = next {
@@ -242,7 +256,7 @@ impl Calls {
             self.run = panel::run(rng);
         }
         match rng.below(if quiet { 60 } else { 100 }) {
-            0..=54 => reading(rng, d),
+            0..=54 => Call::Reading(sample(rng, d)),
             55 => Call::Report,
             56..=59 if quiet => {
                 let register = rng.pick(&[22, 103, 104, 14, APPLY]);
@@ -267,7 +281,8 @@ fn make(rng: &mut Rng) -> Call {
     Call::Make(bytes, if rng.one_in(6) { rng.pick(&[0, 1, 247, 248, 255]) } else { rng.range(1, 247) as u8 })
 }
 
-fn reading(rng: &mut Rng, d: &Device) -> Call {
+/// A reading for a device, aimed at its edges.
+fn sample(rng: &mut Rng, d: &Device) -> Sample {
     let f = &d.figures;
     let by_gain =
         |value: i64, gain: i64| if gain == 0 { 0 } else { ((value as i128 * (1 << 28)) / gain as i128) as i64 };
@@ -297,7 +312,7 @@ fn reading(rng: &mut Rng, d: &Device) -> Call {
         (6, _) if rng.one_in(10) => rng.pick(&[-19_660_801, 19_660_801, i64::MIN, i64::MAX]),
         _ => rng.near(19_660_800),
     };
-    Call::Reading(elec, temp, if rng.one_in(12) { rng.pick(&[1, 1, 1, 2, 255]) } else { 0 })
+    (elec, temp, if rng.one_in(12) { rng.pick(&[1, 1, 1, 2, 255]) } else { 0 })
 }
 
 /// The next input of a slow filling, in which the held value falls further behind; now and then a jump ends it.

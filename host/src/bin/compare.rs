@@ -1,13 +1,14 @@
-//! compare CALLS SEED: the same generated calls on the model and on the archive.
+//! compare CALLS SEED: the same generated calls on the model and on the archive, with four devices each.
 //!
-//! Compared: numbers, lengths, every byte of and around the lent buffer, report bits, the whole
-//! record in steps, the waiting copy too, a read of each register of 01 and of some of the panel's
-//! after each call, and that a refused call keeps the record (a refused making leaves zeros).
+//! Compared: numbers, lengths, every byte of and around the lent buffer, report bits, weights, the whole
+//! record in steps, the waiting copy too, of each device that the call was on, a read of each register of
+//! 01 and of some of the panel's after each call, and that a refused call keeps the record, one of a
+//! platform all four (a refused making leaves zeros).
 
 use host::generate::{Call, Calls};
 use host::tool::{run, Failure};
 use host::{panel_registers, read_frame, Converter, Other, APPLY, REGISTERS, WITH_ARCHIVE};
-use model::Figures;
+use model::{Figures, Sample, Weights};
 use std::process::ExitCode;
 
 /// Bytes kept on either side of a lent buffer.
@@ -20,13 +21,22 @@ struct Outcome {
     length: usize,
     report: [u32; 4],
     buffer: Vec<u8>,
+    weights: Weights,
     /// A refused call kept the record; a refused making left zeros.
     kept: bool,
 }
 
-fn perform<C: Converter>(device: &mut C, call: &Call, fill: u8) -> Outcome {
+impl Outcome {
+    fn new() -> Outcome {
+        Outcome { number: 0, length: 0, report: [0; 4], buffer: Vec::new(), weights: Weights::default(), kept: true }
+    }
+}
+
+/// A call on the device at this place, or on all four.
+fn perform<C: Converter>(devices: &mut [C; 4], at: usize, call: &Call, fill: u8) -> Outcome {
+    let device = &mut devices[at];
     let before = device.clone();
-    let mut o = Outcome { number: 0, length: 0, report: [0; 4], buffer: Vec::new(), kept: true };
+    let mut o = Outcome::new();
     match call {
         Call::Make(sheet, station) => {
             o.number = device.make(sheet, *station);
@@ -36,7 +46,7 @@ fn perform<C: Converter>(device: &mut C, call: &Call, fill: u8) -> Outcome {
                 return o;
             }
         }
-        Call::Reading(elec, temp, integrity) => o.number = device.reading(*elec, *temp, *integrity),
+        Call::Reading((elec, temp, integrity)) => o.number = device.reading(*elec, *temp, *integrity),
         Call::Report => {
             (o.number, o.report) = device.report();
             o.kept = *device == before;
@@ -45,11 +55,18 @@ fn perform<C: Converter>(device: &mut C, call: &Call, fill: u8) -> Outcome {
             o.buffer = vec![fill; room + 2 * MARGIN];
             (o.number, o.length) = device.frame(frame, &mut o.buffer[MARGIN..MARGIN + room]);
         }
+        Call::Weigh(samples) => return weigh(devices, *samples),
     }
     if o.number != 0 {
         o.kept = *device == before;
     }
     o
+}
+
+fn weigh<C: Converter>(devices: &mut [C; 4], samples: [Sample; 4]) -> Outcome {
+    let before = devices.clone();
+    let (number, weights) = C::weigh(devices.each_mut(), samples);
+    Outcome { number, weights, kept: number == 0 || *devices == before, ..Outcome::new() }
 }
 
 /// A read of each register: number, length and reply.
@@ -65,9 +82,10 @@ fn registers<C: Converter>(device: &mut C, reads: &[Vec<u8>]) -> Vec<(u8, usize,
 fn describe(call: &Call) -> String {
     match call {
         Call::Make(sheet, station) => format!("make {sheet:02x?} {station}"),
-        Call::Reading(elec, temp, integrity) => format!("reading {elec} {temp} {integrity}"),
+        Call::Reading(sample) => format!("reading {sample:?}"),
         Call::Report => "report".into(),
         Call::Frame(frame, room) => format!("frame {frame:02x?} {room}"),
+        Call::Weigh(samples) => format!("weigh {samples:?}"),
     }
 }
 
@@ -87,87 +105,154 @@ fn main() -> ExitCode {
 /// How many registers of Change 1 are read after a call, in turn; all of 01's are.
 const PANEL_READS: usize = 7;
 
-/// Frames that read each of these registers, in order.
-fn reads(station: u8, registers: impl Iterator<Item = u16>) -> Vec<Vec<u8>> {
-    registers.map(|register| read_frame(station, 2 * register)).collect()
+/// Frames that read the registers of a device: of 01, and of Change 1, of which those in front are next.
+#[derive(Default)]
+struct Reads {
+    base: Vec<Vec<u8>>,
+    panel: Vec<Vec<u8>>,
 }
 
+impl Reads {
+    fn of(station: u8) -> Reads {
+        let frame = |register| read_frame(station, 2 * register);
+        Reads { base: REGISTERS.map(frame).into(), panel: panel_registers().map(frame).collect() }
+    }
+
+    /// Whether the two answer some of them differently.
+    fn differ(&mut self, model: &mut model::Device, other: &mut Other) -> bool {
+        self.panel.rotate_left(PANEL_READS);
+        let mut frames = [&self.base[..], &self.panel[..PANEL_READS]].into_iter();
+        frames.any(|frames| registers(model, frames) != registers(other, frames))
+    }
+}
+
+/// One more than the largest number of refusal.
+const NUMBERS: usize = 19;
+
 /// What the calls were.
+#[derive(Default)]
 struct Seen {
-    numbers: [u64; 256],
+    numbers: [u64; NUMBERS],
     applied: u64,
     /// Readings with the filter on: whether further than FFLV from the previous input, and from the held value.
     filtered: [[u64; 2]; 2],
     flags: u16,
-    /// Readings without start or RST: so far, and the most.
-    readings: u64,
+    /// Readings without start or RST: so far, of each device, and the most.
+    readings: [u64; 4],
     longest: u64,
+    /// Platform calls: accepted; refused for one corner alone, for each; refused for several.
+    weighed: u64,
+    spoiled: [u64; 4],
+    several: u64,
+}
+
+/// The inputs of the devices that take a reading where a call is accepted.
+fn inputs(call: &Call, at: usize) -> [Option<i64>; 4] {
+    let mut inputs = [None; 4];
+    match call {
+        Call::Reading((elec, ..)) => inputs[at] = Some(*elec),
+        Call::Weigh(samples) => inputs = samples.map(|(elec, ..)| Some(elec)),
+        _ => {}
+    }
+    inputs
 }
 
 impl Seen {
-    fn add(&mut self, call: &Call, number: u8, before: &model::Device, device: &model::Device) {
+    fn add(&mut self, call: &Call, at: usize, number: u8, before: &[model::Device; 4], after: &[model::Device; 4]) {
         self.numbers[usize::from(number)] += 1;
-        self.flags |= device.flag;
-        let accepted = number == 0 && matches!(call, Call::Reading(..));
-        self.readings = if device.last.is_none() { 0 } else { self.readings + u64::from(accepted) };
-        self.longest = self.longest.max(self.readings);
-        if let (true, Some(last), Call::Reading(input, ..)) = (accepted, &before.last, call) {
+        match call {
+            Call::Weigh(samples) => self.weigh(samples, number, before),
+            Call::Frame(frame, _) if number == 0 => {
+                self.applied += u64::from(frame[1] == 16 && frame[2..4] == (2 * APPLY).to_be_bytes());
+            }
+            _ => {}
+        }
+        for (at, input) in inputs(call, at).into_iter().enumerate() {
+            if let Some(input) = input.filter(|_| number == 0) {
+                self.take(at, input, &before[at]);
+            }
+            self.flags |= after[at].flag;
+            if after[at].last.is_none() {
+                self.readings[at] = 0;
+            }
+        }
+    }
+
+    /// An accepted reading of a device.
+    fn take(&mut self, at: usize, input: i64, before: &model::Device) {
+        self.readings[at] += 1;
+        self.longest = self.longest.max(self.readings[at]);
+        if let Some(last) = &before.last {
             let Figures { fflv, ffst, .. } = before.figures;
             let far = |from: i64| usize::from((input - from).abs() > fflv);
             self.filtered[far(last.input)][far(last.elec)] += u64::from(fflv > 0 && ffst > 0);
         }
-        let to_apply = |frame: &[u8]| frame[1] == 16 && frame[2..4] == (2 * APPLY).to_be_bytes();
-        self.applied += u64::from(number == 0 && matches!(call, Call::Frame(frame, _) if to_apply(frame)));
+    }
+
+    fn weigh(&mut self, samples: &[Sample; 4], number: u8, before: &[model::Device; 4]) {
+        let refuses = |&at: &usize| {
+            let (elec, temp, integrity) = samples[at];
+            { before[at] }.take(elec, temp, integrity).is_err()
+        };
+        let spoiled: Vec<usize> = (0..4).filter(refuses).collect();
+        match (number, &spoiled[..]) {
+            (0, _) => self.weighed += 1,
+            (_, [corner]) => self.spoiled[*corner] += 1,
+            _ => self.several += 1,
+        }
     }
 
     fn print(&self) {
-        let by_number: Vec<String> = (0..=17).map(|n| format!("{n}: {}", self.numbers[n])).collect();
+        let by_number: Vec<String> =
+            self.numbers.iter().enumerate().map(|(n, times)| format!("{n}: {times}")).collect();
         println!("calls by number  {}", by_number.join(", "));
         println!("the copy put in force {} times", self.applied);
         let [[smooth, behind], [back, jumps]] = self.filtered;
         println!("filter on: {} readings smoothed, {behind} of them far from the held value", smooth + behind);
         println!("           {} jumped, {back} of them to near the held value", jumps + back);
         println!("FLAG bits seen {}; longest run of readings without start or RST {}", self.flags, self.longest);
+        let [one, two, three, four] = self.spoiled;
+        println!("four corners: {} calls accepted, {} refused with 18", self.weighed, self.numbers[18]);
+        println!("              for corner 1 alone {one}, 2 {two}, 3 {three}, 4 {four}; for several {}", self.several);
     }
 }
 
 /// Whether no call differs.
 fn compare(calls: u64, seed: u64) -> bool {
-    let (mut generator, mut differences) = (Calls::new(seed), 0);
-    let (mut model, mut other) = (model::Device::default(), Other::default());
-    let mut seen = Seen { numbers: [0; 256], applied: 0, filtered: [[0; 2]; 2], flags: 0, readings: 0, longest: 0 };
-    let (mut base, mut panel) = (Vec::new(), Vec::new());
+    let (mut generator, mut seen, mut differences) = (Calls::new(seed), Seen::default(), 0);
+    let (mut models, mut others) = <([model::Device; 4], [Other; 4])>::default();
+    let mut reads = <[Reads; 4]>::default();
 
     for i in 0..calls {
-        let (call, fill) = generator.next(&model, i / 4_096 % 4 == 3);
-        let before = model;
-        let expected = perform(&mut model, &call, fill);
-        let found = perform(&mut other, &call, fill);
+        let (call, at, fill) = generator.next(&models, i / 4_096 % 4 == 3);
+        let before = models;
+        let expected = perform(&mut models, at, &call, fill);
+        let found = perform(&mut others, at, &call, fill);
         if matches!(call, Call::Make(..)) {
-            base = reads(model.station, REGISTERS.into_iter());
-            panel = reads(model.station, panel_registers());
+            reads[at] = Reads::of(models[at].station);
         }
-        panel.rotate_left(PANEL_READS);
-        let mut differs = expected != found || !found.kept || other.state() != model;
-        for frames in [&base[..], &panel[..PANEL_READS]] {
-            differs |= registers(&mut model, frames) != registers(&mut other, frames);
-        }
-        if differs || other.state() != model {
+        let on = if matches!(call, Call::Weigh(..)) { 0..4 } else { at..at + 1 };
+        let differs = expected != found
+            || !found.kept
+            || reads[at].differ(&mut models[at], &mut others[at])
+            || on.into_iter().any(|at| others[at].state() != models[at]);
+        if differs {
             differences += 1;
             if differences <= 5 {
-                println!("DIFFERENCE at call {i}: {}", describe(&call));
-                println!("  model {expected:02x?}\n        {model:?}");
-                println!("  other {found:02x?}\n        {:?}", other.state());
+                println!("DIFFERENCE at call {i}, on device {}: {}", at + 1, describe(&call));
+                println!("  model {expected:02x?}\n        {models:?}");
+                println!("  other {found:02x?}\n        {:?}", others.map(|other| other.state()));
             }
-            // The model is the reference: go on with a new device.
-            (model, other) = Default::default();
+            // The model is the reference: go on with new devices.
+            (models, others) = Default::default();
         }
-        seen.add(&call, expected.number, &before, &model);
+        seen.add(&call, at, expected.number, &before, &models);
     }
 
     seen.print();
     let pair = if WITH_ARCHIVE { "model and archive" } else { "model and itself (no archive linked)" };
-    let reads = format!("{} registers of 01 and {PANEL_READS} of {} of Change 1", REGISTERS.len(), panel.len());
+    let panel = panel_registers().count();
+    let reads = format!("{} registers of 01 and {PANEL_READS} of {panel} of Change 1", REGISTERS.len());
     println!("{pair}: {calls} calls, each with reads of {reads}, {differences} differences");
     differences == 0
 }
