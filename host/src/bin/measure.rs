@@ -7,13 +7,15 @@ use host::{read_frame, write_frame, Converter, Other, APPLY, RST, WITH_ARCHIVE};
 use model::panel::{Row, ROWS};
 use model::sheet::{most, LinearityPoint, TemperaturePoint};
 use model::value::{scaled, Range, WHOLE};
-use model::Figures;
+use model::{Figures, Sample};
 use std::hint::black_box;
 use std::{mem::size_of, process::ExitCode, time::Instant};
 
-const KINDS: [(&str, &str); 9] = [
+const KINDS: [(&str, &str); 11] = [
     ("default", "reading, default sheet"),
     ("full", "reading, full tables, filter on"),
+    ("corners", "four corners, default sheet"),
+    ("corners-full", "four corners, full tables, filter on"),
     ("read", "read frame"),
     ("write", "write frame (SZ)"),
     ("figure", "read frame (a figure of the copy)"),
@@ -22,8 +24,9 @@ const KINDS: [(&str, &str); 9] = [
     ("reset", "write frame (RST)"),
     ("exception", "read frame refused (no such register)"),
 ];
-const USAGE: &str =
-    "measure [default|full|read|write|figure|panel|apply|reset|exception N [model|archive]] (archive: only if linked)";
+const USAGE: &str = "\
+measure [default|full|corners|corners-full|read|write|figure|panel|apply|reset|exception N [model|archive]] \
+(archive: only if linked)";
 const STATION: u8 = 52;
 
 /// Five and seven points and a filter that smooths every reading.
@@ -65,34 +68,49 @@ fn frame(kind: &str, i: u16) -> Vec<u8> {
     }
 }
 
-/// The seconds that n calls of a kind took.
+/// The seconds that n calls of a kind took. All is done to the first of four devices, or to each.
 fn calls<C: Converter>(kind: &str, n: usize) -> f64 {
     let mut rng = Rng::new(1);
-    let figures = if matches!(kind, "full" | "apply") { full() } else { Figures::standard() };
-    let mut device = C::default();
-    assert_eq!(device.make(&sheet(&figures), STATION), 0);
-    let readings: Vec<(i64, i64)> =
-        (0..1_024).map(|_| (rng.range(-9_000_000, 9_000_000), rng.range(-1_310_720, 3_932_160))).collect();
-    let frames: Vec<Vec<u8>> = (0..1_024).map(|i| frame(kind, i)).collect();
-    assert_eq!(device.reading(6_553_600, 1_310_720, 0), 0);
-    let mut reply = [0; 9];
-    let due = if kind == "exception" { NO_SUCH } else { 0 };
-    let mut others = 0;
-    let start = Instant::now();
-    if matches!(kind, "default" | "full") {
-        for &(elec, temp) in readings.iter().cycle().take(n) {
-            others += u32::from(device.reading(black_box(elec), black_box(temp), 0) != due);
-        }
-    } else {
-        for frame in frames.iter().cycle().take(n) {
-            others += u32::from(device.frame(black_box(frame), &mut reply).0 != due);
-            black_box(&reply);
-        }
+    let figures = if matches!(kind, "full" | "corners-full" | "apply") { full() } else { Figures::standard() };
+    let mut devices = [(); 4].map(|()| C::default());
+    for device in &mut devices {
+        assert_eq!(device.make(&sheet(&figures), STATION), 0);
+        assert_eq!(device.reading(6_553_600, 1_310_720, 0), 0);
     }
+    let samples: Vec<Sample> =
+        (0..1_024).map(|_| (rng.range(-9_000_000, 9_000_000), rng.range(-1_310_720, 3_932_160), 0)).collect();
+    let frames: Vec<Vec<u8>> = (0..1_024).map(|i| frame(kind, i)).collect();
+    let start = Instant::now();
+    let others = match kind {
+        "default" | "full" => readings(&mut devices[0], samples.iter().cycle().take(n)),
+        "corners" | "corners-full" => weighings(&mut devices, samples.as_chunks().0.iter().cycle().take(n)),
+        _ => answers(&mut devices[0], frames.iter().cycle().take(n), if kind == "exception" { NO_SUCH } else { 0 }),
+    };
     let seconds = start.elapsed().as_secs_f64();
-    black_box(&device);
+    black_box(&devices);
     assert_eq!(others, 0);
     seconds
+}
+
+/// How many readings were refused.
+fn readings<'a, C: Converter>(device: &mut C, samples: impl Iterator<Item = &'a Sample>) -> usize {
+    samples.filter(|(elec, temp, _)| device.reading(black_box(*elec), black_box(*temp), 0) != 0).count()
+}
+
+/// How many calls of four readings were refused.
+fn weighings<'a, C: Converter>(devices: &mut [C; 4], samples: impl Iterator<Item = &'a [Sample; 4]>) -> usize {
+    samples.filter(|samples| black_box(C::weigh(devices.each_mut(), black_box(**samples))).0 != 0).count()
+}
+
+/// How many frames had another number than the one due.
+fn answers<'a, C: Converter>(device: &mut C, frames: impl Iterator<Item = &'a Vec<u8>>, due: u8) -> usize {
+    let mut reply = [0; 9];
+    let other = |frame: &&Vec<u8>| {
+        let (number, _) = device.frame(black_box(frame), &mut reply);
+        black_box(&reply);
+        number != due
+    };
+    frames.filter(other).count()
 }
 
 const PASSES: usize = 41;
