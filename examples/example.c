@@ -1,7 +1,9 @@
 /* Make a device of the default sheet, take readings, and answer frames: what a board does all day; then load bad sheets
- * while it runs, which disturbs nothing; then calibrate it from the panel; then fill it slowly with the filter on. In
- * one report the four values differ, so that a header with their order changed does not pass. */
+ * while it runs, which disturbs nothing; then calibrate it from the panel; then fill it slowly with the filter on; then
+ * weigh a lorry on a platform of four. In one report the four values differ, and in one weighing all eight, so that a
+ * header with their order changed does not pass. */
 #include "converter.h"
+#include <inttypes.h>
 #include <stdio.h>
 #include <string.h>
 
@@ -166,6 +168,43 @@ static void fill_slowly(converter_device *device)
     }
 }
 
+static void print_weighed(converter_weighed weighed)
+{
+    const converter_weights *w = &weighed.weights;
+    const struct { const char *name; int64_t steps; } shown[] = {
+        {"SYS at corner 1", w->one}, {"SYS at corner 2", w->two}, {"SYS at corner 3", w->three},
+        {"SYS at corner 4", w->four}, {"total", w->total}, {"left", w->left}, {"right", w->right},
+        {"left less right", w->difference}};
+    printf("weigh: %u\n", weighed.number);
+    for (size_t i = 0; i < sizeof shown / sizeof *shown; i++)
+        printf("  %s: %" PRId64 " steps, %.4f units\n", shown[i].name, shown[i].steps, (double)shown[i].steps / 65536);
+}
+
+/* Change 4 of paper 02. A platform has a cell at each corner, 1 and 3 on the left, 2 and 4 on the right: four devices,
+ * in four records; here of the default sheet, and of one station. A lorry puts 30, 25.5, 61.5 and 58 % on them. */
+static void weigh_lorry(const uint8_t *sheet, size_t length)
+{
+    static converter_device corner[4];
+    static answers before[4], after[4];
+    converter_samples samples = {{1966080, 1310720, 0}, {1671168, 1310720, 0}, {4030464, 1310720, 0},
+                                 {3801088, 1310720, 0}};
+    for (size_t i = 0; i < 4; i++)
+        printf("make corner %zu: %u\n", i + 1, load(&corner[i], sheet, length, 52));
+    print_weighed(converter_weigh(&corner[0], &corner[1], &corner[2], &corner[3], &samples));
+
+    /* The lorry has gone, and corner 3 gives a reading just beyond its range: no corner takes its own. */
+    samples.one.elec = samples.two.elec = samples.four.elec = 0;
+    samples.three.elec = 19660801;
+    for (size_t i = 0; i < 4; i++)
+        ask_all(&corner[i], &before[i]);
+    print_weighed(converter_weigh(&corner[0], &corner[1], &corner[2], &corner[3], &samples));
+    for (size_t i = 0; i < 4; i++) {
+        ask_all(&corner[i], &after[i]);
+        printf("corner %zu answers %s: ", i + 1, same(&before[i], &after[i]) ? "as before" : "otherwise");
+        print_report(converter_report(&corner[i]));
+    }
+}
+
 int main(void)
 {
     static converter_device device;
@@ -212,5 +251,7 @@ int main(void)
     put_figure(sheet, 9, 268435456);
     printf("good sheet: %u\n", load(&device, sheet, length, 52));
     fill_slowly(&device);
+
+    weigh_lorry(sheet, length);
     return 0;
 }
