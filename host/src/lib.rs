@@ -12,6 +12,7 @@ pub mod line;
 pub mod pty;
 pub mod readings;
 pub mod refusals;
+pub mod served;
 #[cfg(feature = "archive")]
 pub mod simulator;
 pub mod tool;

@@ -1,7 +1,6 @@
 //! Where a simulated converter's readings come from: a built-in profile, or lines of text.
 
-/// ELEC and TEMP in steps, and the integrity byte.
-pub type Reading = (i64, i64, u8);
+use model::Sample;
 
 const STEPS: i64 = 65_536;
 /// Readings a second of a profile.
@@ -13,11 +12,20 @@ pub enum Profile {
     Fill,
     /// 100 % at 20 degrees.
     Still,
+    /// A lorry that drives on a platform, stands, and drives off, in 60 s, in the same air.
+    Lorry,
 }
 
 /// Hopper: tenths of a second, and percent there; straight lines between.
 const HOPPER: [(i64, i64); 9] =
     [(0, 0), (50, 0), (300, 100), (310, 100), (312, 155), (314, 100), (400, 100), (550, 0), (600, 0)];
+/// Lorry: the same at corners 1 to 4. Its front axle loads 1 and 2, its rear 3 and 4; the left, 1 and 3, a little more.
+const LORRY: [[(i64, i64); 6]; 4] = [
+    [(0, 0), (50, 0), (80, 30), (400, 30), (430, 0), (600, 0)],
+    [(0, 0), (50, 0), (80, 28), (400, 28), (430, 0), (600, 0)],
+    [(0, 0), (100, 0), (140, 60), (440, 60), (480, 0), (600, 0)],
+    [(0, 0), (100, 0), (140, 57), (440, 57), (480, 0), (600, 0)],
+];
 /// Air: tenths of a second, and degrees there.
 const AIR: [(i64, i64); 3] = [(0, 18), (3_000, 24), (6_000, 18)];
 
@@ -26,15 +34,22 @@ impl Profile {
         match name {
             "fill" => Some(Profile::Fill),
             "still" => Some(Profile::Still),
+            "lorry" => Some(Profile::Lorry),
             _ => None,
         }
     }
 
-    /// The reading of a tick; the profile repeats for ever.
-    pub fn reading(self, tick: u64) -> Reading {
+    /// The reading of a tick, of corner 1 where they differ; the profile repeats for ever.
+    pub fn reading(self, tick: u64) -> Sample {
+        self.readings(tick)[0]
+    }
+
+    /// The readings of a tick at corners 1 to 4.
+    pub fn readings(self, tick: u64) -> [Sample; 4] {
         match self {
-            Profile::Fill => (along(&HOPPER, tick), along(&AIR, tick), 0),
-            Profile::Still => (100 * STEPS, 20 * STEPS, 0),
+            Profile::Fill => [(along(&HOPPER, tick), along(&AIR, tick), 0); 4],
+            Profile::Still => [(100 * STEPS, 20 * STEPS, 0); 4],
+            Profile::Lorry => LORRY.map(|corner| (along(&corner, tick), along(&AIR, tick), 0)),
         }
     }
 }
@@ -48,11 +63,13 @@ fn along(points: &[(i64, i64)], tick: u64) -> i64 {
     STEPS * v1 + STEPS * (v2 - v1) * (at - t1) / (t2 - t1)
 }
 
-/// `ELEC TEMP INTEGRITY`, in decimal steps.
-pub fn parsed(line: &str) -> Option<Reading> {
+/// `ELEC TEMP INTEGRITY`, in decimal steps, N times.
+pub fn parsed<const N: usize>(line: &str) -> Option<[Sample; N]> {
     let words: Vec<&str> = line.split_whitespace().collect();
-    let [elec, temp, integrity] = words[..] else { return None };
-    Some((elec.parse().ok()?, temp.parse().ok()?, integrity.parse().ok()?))
+    let (samples, []) = words.as_chunks() else { return None };
+    let sample =
+        |[elec, temp, integrity]: &[&str; 3]| Some((elec.parse().ok()?, temp.parse().ok()?, integrity.parse().ok()?));
+    samples.iter().map(sample).collect::<Option<Vec<Sample>>>()?.try_into().ok()
 }
 
 /// Longest line that is looked at.
@@ -106,6 +123,21 @@ mod tests {
         assert_eq!(Profile::Fill.reading(600), (0, 18 * STEPS + 1_200 * STEPS / 1_000, 0));
     }
 
+    #[test]
+    fn a_lorry_comes_axle_by_axle_and_goes() {
+        let percent = |tick| Profile::Lorry.readings(tick).map(|(elec, _, _)| elec / STEPS);
+        assert_eq!(
+            [0, 80, 140, 430, 600].map(percent),
+            [[0; 4], [30, 28, 0, 0], [30, 28, 60, 57], [0, 0, 60, 57], [0; 4]]
+        );
+        for tick in 0..6_001 {
+            let [one, two, three, four] = Profile::Lorry.readings(tick);
+            assert!(one.0 >= two.0 && three.0 >= four.0, "more on the left, {tick}");
+            assert_eq!([one, two, three, four].map(|(_, temp, _)| temp), [Profile::Fill.reading(tick).1; 4]);
+        }
+        assert_eq!(Profile::Still.readings(7), [Profile::Still.reading(0); 4]);
+    }
+
     /// FFLV 2 %, FFST 10: the filling, 0.4 % a reading, is smoothed 3.6 % behind, and only the knock jumps.
     #[test]
     fn the_filling_is_smooth_and_the_knock_jumps() {
@@ -127,10 +159,14 @@ mod tests {
 
     #[test]
     fn lines_of_readings() {
-        assert_eq!(parsed(" 6553600 -1310720\t1 "), Some((6_553_600, -1_310_720, 1)));
-        for wrong in ["", "1 2", "1 2 0 4", "1.5 2 0", "1 2 256", "9223372036854775808 0 0"] {
-            assert_eq!(parsed(wrong), None);
+        assert_eq!(parsed(" 6553600 -1310720\t1 "), Some([(6_553_600, -1_310_720, 1)]));
+        for wrong in ["", "1 2", "1 2 0 4", "1.5 2 0", "1 2 256", "9223372036854775808 0 0", "1 2 0 1 2 0"] {
+            assert_eq!(parsed::<1>(wrong), None);
         }
+        assert_eq!(parsed("1 2 0 3 4 1"), Some([(1, 2, 0), (3, 4, 1)]));
+        // The longest that four readings can be is a line all the same.
+        let longest = vec![format!("{0} {0} 255", i64::MIN); 4].join(" ");
+        assert_eq!((parsed(&longest), longest.len() <= LONGEST), (Some([(i64::MIN, i64::MIN, 255); 4]), true));
     }
 
     #[test]

@@ -1,9 +1,9 @@
-//! A converter on a pseudo-terminal: one thread that waits for bytes of the bus, for readings and for silences.
+//! Converters on a pseudo-terminal: one thread that waits for bytes of the bus, for readings and for silences.
 
 use crate::line::Line;
 use crate::pty::{wait, Pty};
-use crate::readings::{parsed, Lines, Profile, Reading, RATE};
-use crate::refusals::meaning;
+use crate::readings::{Lines, Profile, RATE};
+use crate::served::Served;
 use crate::Converter;
 use std::convert::Infallible;
 use std::fmt::Display;
@@ -45,7 +45,7 @@ impl Source {
 }
 
 pub struct Simulator<C> {
-    device: C,
+    served: Served<C>,
     pty: Pty,
     line: Line,
     source: Source,
@@ -53,9 +53,9 @@ pub struct Simulator<C> {
 }
 
 impl<C: Converter> Simulator<C> {
-    /// A device that was made, on a terminal of its own.
-    pub fn new(device: C, pty: Pty, line: Line, source: Source, verbose: bool) -> Simulator<C> {
-        Simulator { device, pty, line, source, verbose }
+    /// What was made, on a terminal of its own.
+    pub fn new(served: Served<C>, pty: Pty, line: Line, source: Source, verbose: bool) -> Simulator<C> {
+        Simulator { served, pty, line, source, verbose }
     }
 
     /// Serve for ever; an error is the terminal's.
@@ -93,9 +93,8 @@ impl<C: Converter> Simulator<C> {
     fn follow_profile(&mut self, now: Instant) {
         let Source::Profile { profile, tick, due } = &mut self.source else { return };
         if now >= *due {
-            let reading = profile.reading(*tick);
+            self.served.follow(*profile, *tick, self.verbose).iter().for_each(report);
             (*tick, *due) = (*tick + 1, now + Duration::from_millis(1_000 / RATE));
-            take(&mut self.device, reading);
         }
     }
 
@@ -103,10 +102,7 @@ impl<C: Converter> Simulator<C> {
         let Source::Text { input, lines } = &mut self.source else { return };
         let Some(mut file) = input.as_ref() else { return };
         let mut bytes = [0; 4_096];
-        let mut complete = |text: &str| match parsed(text) {
-            Some(reading) => take(&mut self.device, reading),
-            None => report(format_args!("not a reading (ELEC TEMP INTEGRITY): {text}")),
-        };
+        let mut complete = |text: &str| self.served.read(text, self.verbose).iter().for_each(report);
         match file.read(&mut bytes) {
             Ok(n @ 1..) => lines.add(&bytes[..n], complete),
             Err(e) if matches!(e.kind(), ErrorKind::WouldBlock | ErrorKind::Interrupted) => {}
@@ -133,10 +129,10 @@ impl<C: Converter> Simulator<C> {
     fn answer(&mut self, now: Instant) -> io::Result<()> {
         let Some(frame) = self.line.take(now) else { return Ok(()) };
         let mut buffer = [0; 256];
-        let (number, length) = self.device.frame(frame, &mut buffer);
+        let (said, length) = self.served.answer(frame, &mut buffer);
         let reply = &buffer[..length];
         if self.verbose {
-            report(format_args!("frame {}\n  {number} {}", hex(frame), meaning(number)));
+            report(format_args!("frame {}\n  {said}", hex(frame)));
             report(format_args!("  reply {}", hex(reply)));
         }
         // As on a wire, what nobody takes is lost: the next request finds no earlier reply.
@@ -145,13 +141,6 @@ impl<C: Converter> Simulator<C> {
             report("a reply was lost: the terminal did not take it");
         }
         Ok(())
-    }
-}
-
-fn take<C: Converter>(device: &mut C, (elec, temp, integrity): Reading) {
-    let number = device.reading(elec, temp, integrity);
-    if number != 0 {
-        report(format_args!("reading {elec} {temp} {integrity}: refused {number}, {}", meaning(number)));
     }
 }
 

@@ -44,8 +44,18 @@ struct Bus {
 impl Bus {
     /// The default sheet, and readings that the test hands in.
     fn start() -> Bus {
+        Bus::with(&["52", "--readings", "-"])
+    }
+
+    /// The same for the four corners of a platform, from `STATION` on.
+    fn platform() -> Bus {
+        Bus::with(&["52", "--readings", "-", "--platform", "--verbose"])
+    }
+
+    /// The default sheet, and these arguments.
+    fn with(arguments: &[&str]) -> Bus {
         let baud = BAUD.to_string();
-        let mut command = command(&["default", "52", "--readings", "-", "--baud", &baud]);
+        let mut command = command(&[&["default", "--baud", &baud], arguments].concat());
         let mut simulator = command.stdin(Stdio::piped()).spawn().expect("converter-sim starts");
         let mut name = String::new();
         let out = simulator.stdout.take().expect("its standard output");
@@ -82,6 +92,19 @@ impl Bus {
     fn exchange(&mut self, frame: &[u8]) -> Vec<u8> {
         self.send(frame);
         self.replies()
+    }
+
+    /// What a read gets at each station of a platform.
+    fn at_each_corner(&mut self, address: u16) -> [Vec<u8>; 4] {
+        [0, 1, 2, 3].map(|n| self.exchange(&read_frame(STATION + n, address)))
+    }
+
+    /// The lines on standard error; the simulator is ended.
+    fn said(&mut self) -> Vec<String> {
+        self.simulator.kill().expect("ended");
+        let mut said = String::new();
+        self.simulator.stderr.take().expect("standard error").read_to_string(&mut said).expect("text");
+        said.lines().map(String::from).collect()
     }
 }
 
@@ -232,13 +255,90 @@ fn unfit_readings_and_their_end_do_not_stop_it() {
     }
     drop(bus.simulator.stdin.take());
     assert_eq!(bus.exchange(&read_frame(STATION, SYS)), HUNDRED);
-    bus.simulator.kill().expect("ended");
-    let mut said = String::new();
-    bus.simulator.stderr.take().expect("standard error").read_to_string(&mut said).expect("text");
-    let said: Vec<&str> = said.lines().collect();
+    let said = bus.said();
     assert!(said[0].starts_with("reading 19660801 0 0: refused 9, bad reading"), "{said:?}");
     assert!(said[1].starts_with("reading 0 0 2: refused 9"), "{said:?}");
     assert_eq!(said[2..].iter().filter(|line| line.starts_with("not a reading")).count(), 2, "{said:?}");
+}
+
+/// Percent at corners 1 to 4, at 20 degrees, as a line of a platform's readings.
+fn corners(percent: [i64; 4]) -> String {
+    percent.map(|percent| format!("{} 1310720 0", percent << 16)).join(" ")
+}
+
+/// What reads get at the stations of a platform.
+fn values(values: [f32; 4]) -> [Vec<u8>; 4] {
+    [0, 1, 2, 3].map(|n| {
+        let [b3, b2, b1, b0] = values[n].to_bits().to_be_bytes();
+        sealed(vec![STATION + n as u8, 3, 4, b1, b0, b3, b2])
+    })
+}
+
+#[test]
+fn each_corner_answers_at_its_station() {
+    let mut bus = Bus::platform();
+    assert_eq!(bus.at_each_corner(SYS), [0, 1, 2, 3].map(|n| sealed(vec![STATION + n, 0x83, 2])));
+    bus.hand_in(&corners([10, 20, 40, 80]));
+    assert_eq!(bus.at_each_corner(SYS), values([10.0, 20.0, 40.0, 80.0]));
+    for station in [STATION - 1, STATION + 4] {
+        assert_eq!(bus.exchange(&read_frame(station, SYS)), []);
+    }
+    assert_eq!(bus.exchange(&read_frame(STATION + 1, SYS)[..7]), []);
+    let said = bus.said();
+    let weights = |[total, left, right, difference]: [i64; 4]| {
+        format!(
+            "weigh: 0, total {} left {} right {} difference {}",
+            total << 16,
+            left << 16,
+            right << 16,
+            difference << 16
+        )
+    };
+    assert!(said.contains(&weights([150, 50, 100, -50])), "{said:?}");
+    assert!(said.contains(&"  corner 4: 0 accepted".to_string()), "{said:?}");
+}
+
+#[test]
+fn a_bad_reading_at_one_corner_is_refused_for_all() {
+    let mut bus = Bus::platform();
+    bus.hand_in(&corners([10, 20, 40, 80]));
+    let bad = "0 0 0 0 0 0 0 13107201 0 0 0 0";
+    bus.hand_in(bad);
+    bus.hand_in(READING);
+    assert_eq!(bus.at_each_corner(SYS), values([10.0, 20.0, 40.0, 80.0]));
+    let said = bus.said();
+    assert!(said[1].starts_with(&format!("weigh {bad}: refused 18, corner refused")), "{said:?}");
+    assert_eq!(said[2], "weigh: 18, total 0 left 0 right 0 difference 0");
+    assert!(said[3].starts_with("not four readings") && said[3].ends_with(READING), "{said:?}");
+}
+
+#[test]
+fn a_broadcast_reaches_every_corner() {
+    let mut bus = Bus::platform();
+    assert_eq!(bus.exchange(&write_frame(0, SZ, 2.5_f32.to_bits())), []);
+    assert_eq!(bus.at_each_corner(SZ), values([2.5; 4]));
+    // SZ of corner 3 by its own station.
+    let written = sealed(vec![STATION + 2, 16, 0, 44, 0, 2]);
+    assert_eq!(bus.exchange(&write_frame(STATION + 2, SZ, 0)), written);
+    bus.hand_in(&corners([10, 20, 40, 80]));
+    assert_eq!(bus.at_each_corner(SYS), values([7.5, 17.5, 40.0, 77.5]));
+}
+
+#[test]
+fn a_profile_is_for_every_corner() {
+    let mut bus = Bus::with(&["52", "--platform", "--profile", "still"]);
+    assert_eq!(bus.at_each_corner(SYS), values([100.0; 4]));
+}
+
+/// In the default, the lorry, the left gets more than the right as soon as the front axle comes, after 5 s.
+#[test]
+fn a_lorry_drives_on() {
+    let mut bus = Bus::with(&["52", "--platform", "--verbose"]);
+    let lines = BufReader::new(bus.simulator.stderr.take().expect("standard error")).lines();
+    let said: Vec<String> = lines.map(|line| line.expect("text")).take(52).collect();
+    assert_eq!(said[..51], ["weigh: 0, total 0 left 0 right 0 difference 0"; 51]);
+    // A tenth of a second later a thirtieth of 30 and of 28 %.
+    assert_eq!(said[51], "weigh: 0, total 126702 left 65536 right 61166 difference 4370");
 }
 
 fn ended(arguments: &[&str]) -> (Option<i32>, String) {
@@ -258,7 +358,10 @@ fn what_is_turned_down_and_bad_usage() {
     assert_eq!(ended(&["/dev/zero", "52"]).1.lines().next(), Some("refused 2"));
     let not_there = "/no/such/sheet: No such file or directory (os error 2)\n".to_string();
     assert_eq!(ended(&["/no/such/sheet", "52"]), (Some(1), not_there));
-    let wrong: [&[&str]; 8] = [
+    // The last corner's station would be 248.
+    let (code, said) = ended(&["default", "245", "--platform"]);
+    assert_eq!((code, said.starts_with("refused 8\nstation: not 1 to 247")), (Some(1), true), "{said}");
+    let wrong: [&[&str]; 9] = [
         &[],
         &["default"],
         &["default", "weight"],
@@ -267,6 +370,7 @@ fn what_is_turned_down_and_bad_usage() {
         &["default", "52", "--profile", "empty"],
         &["default", "52", "--readings", "-", "--profile", "fill"],
         &["default", "52", "--readings", "file"],
+        &["default", "52", "--profile", "lorry"],
     ];
     for arguments in wrong {
         let (code, said) = ended(arguments);

@@ -1,13 +1,13 @@
-//! converter-sim SHEET STATION: the proved converter as a Modbus RTU device on a pseudo-terminal.
+//! converter-sim SHEET STATION: the proved converter, or a platform's four, as Modbus RTU devices on a pseudo-terminal.
 
 use host::archive::Device;
 use host::line::Line;
 use host::pty::Pty;
 use host::readings::Profile;
 use host::refusals::meaning;
+use host::served::Served;
 use host::simulator::{Simulator, Source};
 use host::tool::{failed, run, Failure};
-use host::Converter;
 use model::sheet::LONGEST;
 use model::Figures;
 use std::fs::File;
@@ -16,20 +16,24 @@ use std::os::fd::AsFd;
 use std::process::ExitCode;
 
 const USAGE: &str = "\
-converter-sim SHEET STATION [--profile fill|still | --readings -] [--baud N] [--verbose]
+converter-sim SHEET STATION [--platform] [--profile fill|still|lorry | --readings -] [--baud N] [--verbose]
 
 Serves Modbus RTU on a pseudo-terminal, whose name it prints.
   SHEET              a file of sheet bytes, or the word default: 001's default sheet
   STATION            1 to 247
+  --platform         four devices of the sheet, for corners 1 to 4 of a platform, at STATION to STATION + 3
   --profile fill     a hopper that fills and empties in 60 s, 10 readings a second (the default)
   --profile still    100 % at 20 degrees, 10 readings a second
-  --readings -       readings from standard input, a line each: ELEC TEMP INTEGRITY, in steps of 1/65536
+  --profile lorry    with --platform, and its default: a lorry drives on and off in 60 s, 10 calls a second
+  --readings -       readings from standard input, a line each: ELEC TEMP INTEGRITY, in steps of 1/65536;
+                     with --platform a line has those of corners 1 to 4, 12 numbers
   --baud N           the rate that t3.5, the silence behind a frame, is taken from (9600)
-  --verbose          each frame, its number and the reply on standard error";
+  --verbose          each frame, its number and the reply, and the weights of a platform, on standard error";
 
 struct Arguments {
     sheet: String,
     station: u8,
+    platform: bool,
     baud: u32,
     /// No profile: from standard input.
     profile: Option<Profile>,
@@ -38,11 +42,12 @@ struct Arguments {
 
 /// None: bad usage.
 fn arguments(words: impl Iterator<Item = String>) -> Option<Arguments> {
-    let (mut plain, mut source, mut baud, mut verbose) = (Vec::new(), None, 9_600, false);
+    let (mut plain, mut source, mut baud, mut platform, mut verbose) = (Vec::new(), None, 9_600, false, false);
     let mut words = words;
     while let Some(word) = words.next() {
         match word.as_str() {
             "--verbose" => verbose = true,
+            "--platform" => platform = true,
             "--baud" => baud = words.next()?.parse().ok().filter(|&baud| baud > 0)?,
             "--profile" if source.is_none() => source = Some(Some(Profile::named(&words.next()?)?)),
             "--readings" if source.is_none() => {
@@ -56,7 +61,11 @@ fn arguments(words: impl Iterator<Item = String>) -> Option<Arguments> {
     let [sheet, station] = plain.try_into().ok()?;
     // The library takes a byte and refuses 255 as it would any number above.
     let station = station.parse::<u64>().ok()?.try_into().unwrap_or(u8::MAX);
-    Some(Arguments { sheet, station, baud, profile: source.unwrap_or(Some(Profile::Fill)), verbose })
+    let profile = source.unwrap_or(Some(if platform { Profile::Lorry } else { Profile::Fill }));
+    if !platform && profile == Some(Profile::Lorry) {
+        return None;
+    }
+    Some(Arguments { sheet, station, platform, baud, profile, verbose })
 }
 
 /// The sheet's bytes. One byte past the longest sheet is enough to see that bytes trail.
@@ -71,11 +80,9 @@ fn sheet_bytes(sheet: &str) -> io::Result<Vec<u8>> {
 
 fn serve(a: &Arguments) -> Result<bool, Failure> {
     let sheet = sheet_bytes(&a.sheet).map_err(failed(&a.sheet))?;
-    let mut device = Device::default();
-    let number = device.make(&sheet, a.station);
-    if number != 0 {
-        return Err(Failure::Said(format!("refused {number}\n{}", meaning(number))));
-    }
+    let made = if a.platform { Served::<Device>::platform } else { Served::one };
+    let served =
+        made(&sheet, a.station).map_err(|number| Failure::Said(format!("refused {number}\n{}", meaning(number))))?;
     let source = match a.profile {
         Some(profile) => Source::profile(profile),
         // Not std's own reader: what that has buffered, poll does not see.
@@ -84,7 +91,7 @@ fn serve(a: &Arguments) -> Result<bool, Failure> {
     let pty = Pty::open().map_err(failed("the pseudo-terminal"))?;
     let mut out = io::stdout();
     writeln!(out, "{}", pty.name()).and_then(|()| out.flush()).map_err(failed("standard output"))?;
-    match Simulator::new(device, pty, Line::new(a.baud), source, a.verbose).serve() {
+    match Simulator::new(served, pty, Line::new(a.baud), source, a.verbose).serve() {
         Ok(never) => match never {},
         Err(e) => Err(failed("the pseudo-terminal")(e)),
     }
