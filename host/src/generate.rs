@@ -227,8 +227,8 @@ impl Calls {
         Calls { rng: Rng::new(seed), at: 0, run: Vec::new() }
     }
 
-    /// A call for devices in this state, which of them it is on, and what the lent buffer holds before it; `quiet` keeps
-    /// to long histories of readings.
+    /// A call for devices in this state, which of them it is on, and what the lent buffer holds before it; `quiet`
+    /// keeps to long histories of readings.
     pub fn next(&mut self, devices: &[Device; 4], quiet: bool) -> (Call, usize, u8) {
         if self.run.is_empty() && self.rng.one_in(6) {
             self.at = self.rng.below(4) as usize;

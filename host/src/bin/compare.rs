@@ -8,7 +8,7 @@
 use host::generate::{Call, Calls};
 use host::tool::{run, Failure};
 use host::{panel_registers, read_frame, Converter, Other, APPLY, REGISTERS, WITH_ARCHIVE};
-use model::{Figures, Sample, Weights};
+use model::{Figures, Refusal, Sample, Weights};
 use std::process::ExitCode;
 
 /// Bytes kept on either side of a lent buffer.
@@ -126,8 +126,9 @@ impl Reads {
     }
 }
 
-/// One more than the largest number of refusal.
-const NUMBERS: usize = 19;
+const CORNER_REFUSED: usize = Refusal::CornerRefused as usize;
+/// With 0, of accepted calls.
+const NUMBERS: usize = CORNER_REFUSED + 1;
 
 /// What the calls were.
 #[derive(Default)]
@@ -212,7 +213,7 @@ impl Seen {
         println!("           {} jumped, {back} of them to near the held value", jumps + back);
         println!("FLAG bits seen {}; longest run of readings without start or RST {}", self.flags, self.longest);
         let [one, two, three, four] = self.spoiled;
-        println!("four corners: {} calls accepted, {} refused with 18", self.weighed, self.numbers[18]);
+        println!("four corners: {} calls accepted, {} refused with 18", self.weighed, self.numbers[CORNER_REFUSED]);
         println!("              for corner 1 alone {one}, 2 {two}, 3 {three}, 4 {four}; for several {}", self.several);
     }
 }

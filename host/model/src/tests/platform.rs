@@ -59,7 +59,7 @@ fn sums_of_the_corners() {
     }
 }
 
-/// "this call counts, for each device, as its corner's reading": filter, PEAK, TROF, STAT and FLAG, with other calls between.
+/// "this call counts, for each device, as its corner's reading": filter, PEAK, TROF, STAT and FLAG; other calls between.
 #[test]
 fn each_corner_takes_its_own_reading() {
     let (mut corners, mut alone) = (used(), used());
