@@ -237,7 +237,7 @@ impl Calls {
             self.at = unmade;
             Call::Make(sheet(&figures(&mut self.rng)), self.rng.range(1, 247) as u8)
         } else if self.rng.one_in(12) {
-            platform::weigh(&mut self.rng, devices)
+            Call::Weigh(platform::samples(&mut self.rng, devices))
         } else {
             self.call(&devices[self.at], quiet)
         };
