@@ -90,7 +90,7 @@ mod tests {
         }
     }
 
-    /// The steepest gains, and o and g rounded by half a step, the same way at each corner: nearly as far as it may lie.
+    /// The steepest gains, and o and g rounded by half a step the same way at each corner: nearly as far as it may be.
     #[test]
     fn the_total_lies_far_at_steep_gains() {
         let mut f = Figures { cofs: 10_000_000, cgai: most::CGAI, sgai: most::SGAI, ..Figures::standard() };
