@@ -43,13 +43,18 @@ pub(crate) fn print_count(count: u8) {
     io::write_all(STDOUT_FILENO, b":");
 }
 
-// A figure, in decimal.
+// A figure or a weight, in decimal.
 pub(crate) fn print_signed(n: i64) {
     io::write_all(STDOUT_FILENO, b" ");
     if n < 0 {
         io::write_all(STDOUT_FILENO, b"-");
     }
     io::print_decimal(STDOUT_FILENO, arithmetic::magnitude(n));
+}
+
+// Between groups of numbers.
+pub(crate) fn print_comma() {
+    io::write_all(STDOUT_FILENO, b",");
 }
 
 // The number of a refusal, in the place of a figure.

@@ -1,5 +1,5 @@
 // The library by example: a sheet is written and read back by its cursor, a device is made of it, takes two readings, serves frames and
-// gives reports, and is calibrated from the panel. Each call prints a line: what was called, its number, and what it gave. The device that
+// gives reports, and is calibrated from the panel; four weigh a lorry. Each call prints a line: what was called, its number, and what it gave. The device that
 // a call gives back is handed to the next.
 ghost use Rattle.figures.specs.Default.{defaultSheet};
 ghost use Rattle.sheet.specs.Write.{sheetBytes};
@@ -9,6 +9,7 @@ ghost use Rattle.tour.specs.Next.{Next};
 
 mod contents;
 mod lines;
+mod lorry;
 mod sections;
 
 use converter::Device;
@@ -20,13 +21,21 @@ fn main() {
     if made.number != 0 {
         return;
     }
-    let mut device = take_readings(made.device);
-    device = read_values(device);
-    device = write_zero(device);
-    print_report(b"with a reading", device);
-    device = restart(device);
-    device = calibrate(device);
-    set_copy_back(device);
+    go_through(made.device);
+    lorry::weigh_lorry(made.device);
+}
+
+// All that one device does here.
+fn go_through(device: Device)
+    requires { ⌜ Reached device ⌝ }
+{
+    let mut next = take_readings(device);
+    next = read_values(next);
+    next = write_zero(next);
+    print_report(b"with a reading", next);
+    next = restart(next);
+    next = calibrate(next);
+    set_copy_back(next);
 }
 
 // A device of the default sheet, at station 52. The buffer has room for the longest sheet.
@@ -184,7 +193,7 @@ fn send(device: Device, what: &[u8], sent: &[u8]) -> Device
 }
 
 // SYS, PEAK, TROF and CELL. A report gives no device: it changes none.
-fn print_report(what: &[u8], device: Device)
+pub(crate) fn print_report(what: &[u8], device: Device)
     requires { ⌜ Reached device ⌝ }
 {
     let reported = device.report();

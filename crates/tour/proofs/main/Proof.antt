@@ -3,12 +3,8 @@ use borrow.Author.Needs.{needs}
 use Rattle.tour.proofs.main.Statement.{statement}
 use Rattle.tour.proofs.main.Tie as tie
 
-take-readings-requires : tie.Need-take-readings-requires
-take-readings-requires c κs = search (needs, c .before .before .make-device .ensures .reached)
-
 pub main-spec : {M : Type 1} → statement M
 main-spec =
     tie.close
-    (tie.spec (λ c κs. search needs) (λ c. search needs) take-readings-requires (λ c κs. search needs) (λ c κs. search needs)
-    (λ c. search needs) (λ c κs. search needs) (λ c κs. search needs) (λ c κs. search needs) (λ c κs. search needs)
-    (λ c. search needs))
+    (tie.spec (λ c κs. search needs) (λ c. search needs) (λ c κs. search (needs, c .before .before .make-device .ensures .reached))
+    (λ c κs. search (needs, c .before .before .before .make-device .ensures .reached)) (λ c. search needs))
