@@ -45,7 +45,7 @@ use Rattle.answers.specs.declared.Answer.{Answer}
 use Rattle.answers.specs.declared.Answer.the-variants.{Value, Done, Refused}
 use Rattle.converter.specs.Making.{started}
 use Rattle.converter.specs.Corner.{cornerRefused}
-use Rattle.converter.specs.Call.{Call, reading, frame, report, corner, obeyed, afterReading, afterCall, answerToBytes, number, replyWith, reply}
+use Rattle.converter.specs.Call.{Call, reading, frame, report, corner, obeyed, afterCall, answerToBytes, number, replyWith, reply}
 use Rattle.converter.specs.Reached.{Reached, Serving}
 use Rattle.converter.specs.Wire.{Sends, Withholds}
 use Rattle.converter.specs.declared.Device.{Device}

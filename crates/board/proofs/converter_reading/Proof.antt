@@ -9,7 +9,7 @@ use Rattle.converter.specs.declared.Outcome.{Outcome}
 use Rattle.platform.specs.Weights.{sysOf}
 use Rattle.converter.proofs.Entries.{refuses, takes}
 use Rattle.converter.proofs.Device as D
-use Rattle.walks.proofs.Walk.{none, some, _≡_, refl, ℕ, _<_, _^_, [], _∷_, List, lit<, ℤ, URA, named, w8, w64, Val, vint, vptr, ofZ, SProp, ent, id⊢, GName, Lft, Share, ftrue, flft, fres, Memory, Routine, Heap, Calls, Loops, WpFn, Atoms, Fun, givenOf, Given, ‵, _⊛_, ⋆, group}
+use Rattle.walks.proofs.Walk.{some, _≡_, refl, ℕ, _<_, _^_, [], _∷_, List, lit<, ℤ, URA, named, w8, w64, Val, vint, vptr, ofZ, SProp, ent, id⊢, GName, Lft, Share, ftrue, flft, fres, Memory, Routine, Heap, Calls, Loops, WpFn, Atoms, Fun, givenOf, Given, ‵, _⊛_, ⋆, group}
 use Rattle.walks.proofs.Walk.{_$_, _∵_, !, qed, by, move, keep, drop, split, fsplit, fsplit3, fjoin, suffices, frame, done, look, init, stop, hop, from, addr, of-opd, no-more, assigns, first, returns, returns-within, enter, alloc1, alloc0, params1, pass1}
 use Rattle.walks.proofs.Walk.{pass0, FmC, owns, Is, uint-vals, uint-tells, uint-makes, sint-vals, sint-tells, sint-makes, sint-lawful, u8, i64, RefT, MutRef, ptr-vals, mut-tells, plain, owned, nothing, onEntry, gave-ref, goes-gave-ref, says, needs, Stays, stay-none, walkOf, AllGo}
 use Rattle.walks.proofs.Walk.{goes-none, Walks, ends-at, walked, yes}

@@ -2,7 +2,6 @@
 -- bad each record is given up as it was. Otherwise each goes with its corner's sample to `join`, for good, and the weights are made of what
 -- the four give.
 -- All that the proof knows of the four functions that are called is that they meet their contracts. Assumes nothing.
-use mathlib.Core.Bool.{false}
 use denote.Struct.Laws as LL
 use Rattle.converter.specs.Corner.{one, two, three, four, cornerRefused}
 use Rattle.converter.specs.Corners.{readingOf}
@@ -20,8 +19,8 @@ use Rattle.platform.specs.declared.weights.Weighed.{Weighed}
 use Rattle.platform.proofs.Corners.{refuses, sums-fit, weighs-by}
 use Rattle.platform.proofs.weights.Weighed as J
 use Rattle.platform.proofs.weights.Weighed.Laws as J′
-use Rattle.walks.proofs.Walk.{none, some, _≡_, refl, ℕ, ℤ, [], _∷_, List, URA, named, Val, vptr, SProp, ent, id⊢, emp, GName, Lft, Share, ftrue, flft, fres, fshr-bor, Memory, Routine, Heap, Calls, Loops, WpFn, Atoms, Fun, factI, givenOf, Given, Item, group, ‵, _⊛_, ⋆}
-use Rattle.walks.proofs.Walk.{_$_, _∵_, !, qed, by, move, keep, drop, split, join, fsplit, fsplit3, fjoin, fjoin3, feqI, suffices, frame, done, look, init, stop, hop, from, load, addr, of-opd, no-more, assigns, first, returns, returns-within, enter, alloc1, alloc0, params1, pass1}
+use Rattle.walks.proofs.Walk.{none, some, _≡_, refl, ℕ, [], _∷_, List, URA, named, Val, vptr, SProp, ent, id⊢, emp, GName, Lft, Share, ftrue, flft, fres, fshr-bor, Memory, Routine, Heap, Calls, Loops, WpFn, Atoms, Fun, factI, givenOf, Given, Item, group, ‵, _⊛_, ⋆}
+use Rattle.walks.proofs.Walk.{_$_, _∵_, !, qed, by, move, keep, drop, split, join, fsplit, fsplit3, fjoin, fjoin3, feqI, suffices, frame, done, look, init, stop, hop, from, addr, no-more, assigns, first, returns, returns-within, enter, alloc1, alloc0, params1, pass1}
 use Rattle.walks.proofs.Walk.{pass0, store, FmC, owns, Is, partAt, RefT, MutRef, ShrRef, ptr-vals, mut-tells, shr-tells, plain, owned, nothing, onEntry, gave-ref, goes-gave-ref, says, needs, Stays, stay-none-ref, goes-none-ref, walkOf, AllGo, Walks, ends-at, walked, yes}
 use Rattle.walks.proofs.Call.{Callee, AllKnown, calls-out, calls-plain, local}
 use Rattle.walks.proofs.Branch.{branches-on, skips-to}
