@@ -1,53 +1,56 @@
 -- Laws of `roundDiv`. `round-near` is the only fact about rounding that anything else may use: the laws after it follow from
--- it alone. Only the last part, on halves, knows which way they go. Assumes nothing.
-use mathlib.Core.Path.{_≡_, refl, sym, _∙_, ap, subst}
+-- it alone, up to `closest`. Only the last parts know which way halves go. Assumes nothing.
+use mathlib.Core.Path.{_≡_, refl, sym, _∙_, ap, ap₂, subst}
 use mathlib.Core.List.{[], _∷_}
 use mathlib.Core.Logic.{⊎-elim, _↔_}
-use Prim.Native.Nat.{ℕ, zero, suc, _*_, _/_, _<_, _≤_}
+use Prim.Native.Nat.{ℕ, zero, suc, _+_, _*_, _/_, _^_, _<_, _≤_}
 use native.Mathlib.Omega.{arith}
-use native.Mathlib.Nat.{div-add-mod, mod-lt, mul-le-mul-right, lt-of-mul-lt-mul-right, le-antisymm, le-refl}
-use lib.IntN.{ℤ, pos, negsuc, negℤ, natAbs, _+ℤ_, _-ℤ_, _*ℤ_, +ℤ-idr, *ℤ-comm}
-use mir.Syntax.{Width}
+use native.Mathlib.Nat.{div-add-mod, mod-lt, div-eq-of-lt, mul-le-mul-left, mul-le-mul-right, lt-of-mul-lt-mul-right, mul-div-mul-left, suc-add, le-antisymm, le-refl}
+use lib.IntN.{ℤ, pos, negsuc, negℤ, negℤ-negℤ, natAbs, _+ℤ_, _-ℤ_, _*ℤ_}
+use mir.Syntax.{Width, w64}
 use mir.Val.{SFits}
-use lib.Signed.{shrZ, quotZ, remZ, _≤ℤ_, _<ℤ_, ≤ℤ-refl, clashℤ}
+use lib.Signed.{shrZ, quotZ, _≤ℤ_, _<ℤ_, ≤ℤ-refl}
 use Rattle.integers.specs.Within.{_within_}
 use Rattle.integers.proofs.Parts.{posPart, negPart, lt-parts, abs-parts, ints}
-use Rattle.integers.proofs.Difference.{⟨_⟩, nat, minus, _⊕_, _⊝_, _⊗_, le!, lt!, le?, lt?, abs!, abs-above, abs-below}
-use Rattle.integers.proofs.Order.{≤-or->, ≤-unless, <-unless, ≤-antisym, mul-le, mul-lt, mul-cancel}
-use Rattle.integers.proofs.Magnitude.{within-of, abs-mul, abs-sum2}
+use Rattle.integers.proofs.Difference.{⟨_⟩, nat, minus, _⊕_, _⊝_, _⊗_, le!, lt!, eq!, le?, lt?, abs!, abs-above, abs-below}
+use Rattle.integers.proofs.Order.{≤-or->, ≤-unless, ≤-antisym}
+use Rattle.integers.proofs.Magnitude.{within-of, abs-neg, abs-mul, abs-sum2, abs-pos}
 use Rattle.integers.proofs.Ring.{ring, polynomials}
 use Rattle.integers.proofs.Machine.{fits!, fits-pos-part, fits-neg-part}
-use Rattle.integers.proofs.Division.{quot-rem, rem-below, rem-above}
-use Rattle.arithmetic.specs.Round.{floorDiv, roundDiv, Nearest}
+use Rattle.arithmetic.specs.Round.{roundMagnitude, roundDiv, Nearest}
 
--- ---- the floor: d·⌊z ÷ d⌋ ≤ z < d·⌊z ÷ d⌋ + d
+-- ---- of magnitudes: 2d·r ≤ 2n + d < 2d·r + 2d, and whatever lies there is r
 
-floor-bounds : (z : ℤ) (m : ℕ) → 0 < m → ((pos m *ℤ shrZ z m) ≤ℤ z) × (z <ℤ (pos m *ℤ shrZ z m +ℤ pos m))
-floor-bounds (pos a) m h = (
-  le! (nat m ⊗ nat (a / m)) (nat a) (omega (arith, div-add-mod a m)),
-  lt! (nat a) (nat m ⊗ nat (a / m) ⊕ nat m) (omega (arith, div-add-mod a m, mod-lt a h)),
-)
-floor-bounds (negsuc a) m h = (
-  le! (nat m ⊗ ⟨ negsuc (a / m) ⟩) ⟨ negsuc a ⟩ (omega (arith, div-add-mod a m, mod-lt a h)),
-  lt! ⟨ negsuc a ⟩ (nat m ⊗ ⟨ negsuc (a / m) ⟩ ⊕ nat m) (omega (arith, div-add-mod a m)),
-)
+magnitude-bounds : (n d : ℕ) → 0 < d → let r = roundMagnitude n d in (2 * (r * d) ≤ 2 * n + d) × (2 * n + d < 2 * (r * d) + 2 * d)
+unfolding roundMagnitude
+magnitude-bounds n d h = (omega (arith, div-add-mod (2 * n + d) (2 * d)), omega (arith, div-add-mod (2 * n + d) (2 * d), mod-lt (2 * n + d) (twice h)))
+  where
+    twice : 0 < d → 0 < 2 * d
+    twice h = omega arith
 
--- 2d·r ≤ 2a + d < 2d·r + 2d
-round-bounds : (a : ℤ) (m : ℕ) → 0 < m → let r = roundDiv a (pos m) in ((pos (2 * m) *ℤ r) ≤ℤ (pos 2 *ℤ a +ℤ pos m)) × ((pos 2 *ℤ a +ℤ pos m) <ℤ (pos (2 * m) *ℤ r +ℤ pos (2 * m)))
-unfolding roundDiv floorDiv
-round-bounds a m h = floor-bounds (pos 2 *ℤ a +ℤ pos m) (2 * m) (omega arith)
+magnitude-unique : (n d r : ℕ) → 0 < d → 2 * (r * d) ≤ 2 * n + d → 2 * n + d < 2 * (r * d) + 2 * d → r ≡ roundMagnitude n d
+magnitude-unique n d r h l u =
+    let b = magnitude-bounds n d h in
+    le-antisymm (below r (roundMagnitude n d) l (b .1)) (below (roundMagnitude n d) r (b .0) u)
+  where
+    -- x·2d ≤ z < y·2d + 2d
+    below : (x y : ℕ) → 2 * (x * d) ≤ 2 * n + d → 2 * n + d < 2 * (y * d) + 2 * d → x ≤ y
+    below x y f g = reach (lt-of-mul-lt-mul-right d (omega arith))
+      where
+        reach : x < suc y → x ≤ y
+        reach k = omega arith
 
 -- ---- the one fact: 2·|r·d − a| ≤ d
 
 pub round-near : (a d : ℤ) → pos 0 <ℤ d → 2 * natAbs (roundDiv a d *ℤ d -ℤ a) ≤ natAbs d
+unfolding roundDiv
 round-near a (negsuc m) h = absurd (h .lt)
-round-near a (pos m) h =
-    let b = round-bounds a m (omega (arith, lt-parts h)) in
-    let R = ⟨ roundDiv a (pos m) ⟩ in
-    let A = nat 2 ⊗ ⟨ a ⟩ ⊕ nat m in
-    abs! (R ⊗ nat m ⊝ ⟨ a ⟩) 2 m
-    (omega (arith, le? (nat (2 * m) ⊗ R) A (b .0)))
-    (omega (arith, lt? A (nat (2 * m) ⊗ R ⊕ nat (2 * m)) (b .1)))
+round-near (pos n) (pos m) h =
+    let b = magnitude-bounds n m (omega (arith, lt-parts h)) in
+    abs! (nat (roundMagnitude n m) ⊗ nat m ⊝ nat n) 2 m (omega (arith, b .0)) (omega (arith, b .1))
+round-near (negsuc n) (pos m) h =
+    let b = magnitude-bounds (suc n) m (omega (arith, lt-parts h)) in
+    abs! (minus (nat (roundMagnitude (suc n) m)) ⊗ nat m ⊝ ⟨ negsuc n ⟩) 2 m (omega (arith, b .1)) (omega (arith, b .0))
 
 -- ---- between whole bounds before rounding, between them after; so monotone, and of a's sign
 
@@ -114,143 +117,193 @@ round-none a d h l =
     by (pos n) k = ap pos (omega arith)
     by (negsuc n) k = absurd (omega arith)
 
--- ---- halves go upwards
+-- ---- two whole numbers are no farther apart than a ÷ d lies from both
 
--- −d < 2(r·d − a) ≤ d: what decides r
-pub round-halves : (a d : ℤ) → pos 0 <ℤ d → let e = roundDiv a d *ℤ d -ℤ a in (negℤ d <ℤ (pos 2 *ℤ e)) × ((pos 2 *ℤ e) ≤ℤ d)
-round-halves a (negsuc m) h = absurd (h .lt)
-round-halves a (pos m) h =
-    let b = round-bounds a m (omega (arith, lt-parts h)) in
-    let R = ⟨ roundDiv a (pos m) ⟩ in
-    let A = nat 2 ⊗ ⟨ a ⟩ ⊕ nat m in
-    let E = nat 2 ⊗ (R ⊗ nat m ⊝ ⟨ a ⟩) in
-    (lt! (minus (nat m)) E (omega (arith, lt? A (nat (2 * m) ⊗ R ⊕ nat (2 * m)) (b .1))), le! E (nat m) (omega (arith, le? (nat (2 * m) ⊗ R) A (b .0))))
-
--- whatever lies there is r
-pub round-unique : (a d r : ℤ) → pos 0 <ℤ d → negℤ d <ℤ (pos 2 *ℤ (r *ℤ d -ℤ a)) → (pos 2 *ℤ (r *ℤ d -ℤ a)) ≤ℤ d → r ≡ roundDiv a d
-round-unique a (negsuc m) r h l u = absurd (h .lt)
-round-unique a (pos m) r h l u =
-    let s = roundDiv a (pos m) in
-    let b = round-halves a (pos m) h in
-    let E = nat 2 ⊗ (⟨ r ⟩ ⊗ nat m ⊝ ⟨ a ⟩) in
-    let F = nat 2 ⊗ (⟨ s ⟩ ⊗ nat m ⊝ ⟨ a ⟩) in
-    ≤-antisym
-    (≤-unless r s (λ g. omega (arith, mul-le-mul-right m (lt-parts g), le? E (nat m) u, lt? (minus (nat m)) F (b .0))))
-    (≤-unless s r (λ g. omega (arith, mul-le-mul-right m (lt-parts g), le? F (nat m) (b .1), lt? (minus (nat m)) E l)))
-
--- equal fractions round alike
-pub round-same : (a d b c : ℤ) → pos 0 <ℤ d → pos 0 <ℤ c → a *ℤ c ≡ b *ℤ d → roundDiv a d ≡ roundDiv b c
-round-same a d b c hd hc e = sym (round-unique a d r hd
-    (<-unless (negℤ d) X (λ l. clashℤ (subst (λ (z : ℤ). (negℤ c *ℤ d) <ℤ z) scaled (mul-lt hd (k .0))) (subst (λ (z : ℤ). (X *ℤ c) ≤ℤ z) (swap-neg d c) (mul-le hc l))))
-    (mul-cancel hc (subst (λ (z : ℤ). z ≤ℤ (d *ℤ c)) scaled (subst (λ (z : ℤ). (Y *ℤ d) ≤ℤ z) (*ℤ-comm c d) (mul-le hd (k .1))))))
+far : (a d r s : ℤ) → natAbs (r -ℤ s) * natAbs d ≤ natAbs (r *ℤ d -ℤ a) + natAbs (s *ℤ d -ℤ a)
+far a d r s = simp (abs-mul, abs-neg) at (abs-sum2 (r *ℤ d -ℤ a) (negℤ (s *ℤ d -ℤ a)) (between r s d a))
   where
-    r : ℤ
-    r = roundDiv b c
+    between : (r s d a : ℤ) → (r -ℤ s) *ℤ d ≡ (r *ℤ d -ℤ a) +ℤ negℤ (s *ℤ d -ℤ a)
+    between r s d a = ring (r ∷ s ∷ d ∷ a ∷ []) (search polynomials depth 20 fits 9000) refl
 
-    X : ℤ
-    X = pos 2 *ℤ (r *ℤ d -ℤ a)
+no-gap : {r s : ℤ} → natAbs (r -ℤ s) < 1 → r ≡ s
+no-gap {r} {s} l = eq! ⟨ r ⟩ ⟨ s ⟩ (omega (arith, abs-above (⟨ r ⟩ ⊝ ⟨ s ⟩), abs-below (⟨ r ⟩ ⊝ ⟨ s ⟩)))
 
-    Y : ℤ
-    Y = pos 2 *ℤ (r *ℤ c -ℤ b)
+-- none is nearer
+closest : (a d s : ℤ) → pos 0 <ℤ d → natAbs (roundDiv a d *ℤ d -ℤ a) ≤ natAbs (s *ℤ d -ℤ a)
+closest a d s h = by (natAbs (roundDiv a d -ℤ s)) refl
+  where
+    by : (k : ℕ) → natAbs (roundDiv a d -ℤ s) ≡ k → natAbs (roundDiv a d *ℤ d -ℤ a) ≤ natAbs (s *ℤ d -ℤ a)
+    by zero e = let f : roundDiv a d ≡ s = no-gap (omega (arith, e)) in rw f (le-refl _)
+    by (suc k) e = let f = rw e at (far a d (roundDiv a d) s) in omega (arith, f, round-near a d h)
 
-    k : (negℤ c <ℤ Y) × (Y ≤ℤ c)
-    k = round-halves b c hc
+-- ---- halves go away from zero: of −a, all with the other sign
 
-    swap-neg : (d c : ℤ) → negℤ d *ℤ c ≡ negℤ c *ℤ d
-    swap-neg d c = ring (d ∷ c ∷ []) (search polynomials depth 20 fits 9000) refl
+pub round-odd : (a d : ℤ) → roundDiv (negℤ a) d ≡ negℤ (roundDiv a d)
+unfolding roundDiv roundMagnitude
+round-odd (pos zero) d = let e = none (natAbs d) in rw e
+  where
+    none : (m : ℕ) → roundMagnitude 0 m ≡ 0
+    none zero = refl
+    none (suc m) = div-eq-of-lt (omega arith)
+round-odd (pos (suc n)) d = refl
+round-odd (negsuc n) d = sym (negℤ-negℤ (pos (roundMagnitude (suc n) (natAbs d))))
 
-    left : (r a d c : ℤ) → pos 2 *ℤ (r *ℤ d -ℤ a) *ℤ c ≡ pos 2 *ℤ (r *ℤ c *ℤ d -ℤ a *ℤ c)
-    left r a d c = ring (r ∷ a ∷ d ∷ c ∷ []) (search polynomials depth 20 fits 9000) refl
-
-    right : (r b d c : ℤ) → pos 2 *ℤ (r *ℤ c *ℤ d -ℤ b *ℤ d) ≡ pos 2 *ℤ (r *ℤ c -ℤ b) *ℤ d
-    right r b d c = ring (r ∷ b ∷ d ∷ c ∷ []) (search polynomials depth 20 fits 9000) refl
-
-    scaled : Y *ℤ d ≡ X *ℤ c
-    scaled = sym (left r a d c ∙ ap (λ (z : ℤ). pos 2 *ℤ (r *ℤ c *ℤ d -ℤ z)) e ∙ right r b d c)
-
--- `roundDiv a d` is the nearest whole number, halves upwards, and nothing else is
-pub round-nearest : (a d : ℤ) → pos 0 <ℤ d → Nearest a d (roundDiv a d)
-round-nearest a (negsuc m) h = absurd (h .lt)
-round-nearest a (pos m) h = record {
-  nearest = λ s. ⊎-elim (λ l. ⊎-elim (λ g. same (≤-antisym g l)) (λ g. below s g) (≤-or-> r s)) (λ g. <-le (above s g)) (≤-or-> s r);
-  upwards = λ s e. ≤-unless s r (λ g. omega (arith, above s g, e));
+nearest-odd : {a d r : ℤ} → Nearest a d r → Nearest (negℤ a) d (negℤ r)
+nearest-odd {a} {d} {r} k = record {
+  nearest = λ s. rw (turned r, turned-back s) (k .nearest (negℤ s));
+  away = λ s e. rw (abs-neg r) (simp abs-neg at (k .away (negℤ s) (sym (turned-back s) ∙ e ∙ turned r)));
 }
   where
-    r : ℤ
-    r = roundDiv a (pos m)
+    turn : (s d a : ℤ) → negℤ s *ℤ d -ℤ negℤ a ≡ negℤ (s *ℤ d -ℤ a)
+    turn s d a = ring (s ∷ d ∷ a ∷ []) (search polynomials depth 20 fits 9000) refl
 
-    same : {s : ℤ} → r ≡ s → natAbs (r *ℤ pos m -ℤ a) ≤ natAbs (s *ℤ pos m -ℤ a)
-    same e = rw e (le-refl _)
+    turned : (s : ℤ) → natAbs (negℤ s *ℤ d -ℤ negℤ a) ≡ natAbs (s *ℤ d -ℤ a)
+    turned s = ap natAbs (turn s d a) ∙ abs-neg (s *ℤ d -ℤ a)
 
-    <-le : {x y : ℕ} → x < y → x ≤ y
-    <-le h = omega arith
+    turned-back : (s : ℤ) → natAbs (s *ℤ d -ℤ negℤ a) ≡ natAbs (negℤ s *ℤ d -ℤ a)
+    turned-back s = ap (λ (z : ℤ). natAbs (z *ℤ d -ℤ negℤ a)) (sym (negℤ-negℤ s)) ∙ turned (negℤ s)
 
-    below : (s : ℤ) → s <ℤ r → natAbs (r *ℤ pos m -ℤ a) ≤ natAbs (s *ℤ pos m -ℤ a)
-    below s g = omega (arith, round-near a (pos m) h, mul-le-mul-right m (lt-parts g), abs-below (⟨ s ⟩ ⊗ nat m ⊝ ⟨ a ⟩), le? (nat 2 ⊗ (⟨ r ⟩ ⊗ nat m ⊝ ⟨ a ⟩)) (nat m) (round-halves a (pos m) h .1))
+nearest-above : (n m : ℕ) → pos 0 <ℤ pos m → Nearest (pos n) (pos m) (roundDiv (pos n) (pos m))
+unfolding roundDiv
+nearest-above n m h = record { nearest = λ s. closest (pos n) (pos m) s h; away = away }
+  where
+    R : ℕ
+    R = roundMagnitude n m
 
-    above : (s : ℤ) → r <ℤ s → natAbs (r *ℤ pos m -ℤ a) < natAbs (s *ℤ pos m -ℤ a)
-    above s g = omega (arith, round-near a (pos m) h, mul-le-mul-right m (lt-parts g), abs-above (⟨ s ⟩ ⊗ nat m ⊝ ⟨ a ⟩), lt? (minus (nat m)) (nat 2 ⊗ (⟨ r ⟩ ⊗ nat m ⊝ ⟨ a ⟩)) (round-halves a (pos m) h .0))
+    b : (2 * (R * m) ≤ 2 * n + m) × (2 * n + m < 2 * (R * m) + 2 * m)
+    b = magnitude-bounds n m (omega (arith, lt-parts h))
+
+    near : 2 * natAbs (pos R *ℤ pos m -ℤ pos n) ≤ m
+    near = round-near (pos n) (pos m) h
+
+    away : (s : ℤ) → natAbs (s *ℤ pos m -ℤ pos n) ≡ natAbs (pos R *ℤ pos m -ℤ pos n) → natAbs s ≤ R
+    away (pos S) e = omega (ints, ≤-unless (pos S) (pos R) (λ g. omega (arith, b .1, near, e, mul-le-mul-right m (lt-parts g), abs-above (nat S ⊗ nat m ⊝ nat n))))
+    away (negsuc S) e = absurd (omega (arith, near, e, lt-parts h, abs-below (⟨ negsuc S ⟩ ⊗ nat m ⊝ nat n)))
+
+-- `roundDiv a d` is the nearest whole number, halves away from zero, and nothing else is
+pub round-nearest : (a d : ℤ) → pos 0 <ℤ d → Nearest a d (roundDiv a d)
+round-nearest a (negsuc m) h = absurd (h .lt)
+round-nearest (pos n) (pos m) h = nearest-above n m h
+round-nearest (negsuc n) (pos m) h = subst (Nearest (negsuc n) (pos m)) (sym (round-odd (pos (suc n)) (pos m))) (nearest-odd (nearest-above (suc n) m h))
 
 pub round-is : (a d r : ℤ) → pos 0 <ℤ d → r ≡ roundDiv a d ↔ Nearest a d r
 round-is a d r h = ((λ e. rw e (round-nearest a d h)), only)
   where
+    -- equally large and at most 1 apart
+    equal : (r s : ℤ) → natAbs r ≡ natAbs s → natAbs (r -ℤ s) < 2 → r ≡ s
+    equal (pos n) (pos m) e l = ap pos e
+    equal (pos n) (negsuc m) e l = absurd (omega (arith, e, abs-above (nat n ⊝ ⟨ negsuc m ⟩)))
+    equal (negsuc n) (pos m) e l = absurd (omega (arith, e, abs-below (⟨ negsuc n ⟩ ⊝ nat m)))
+    equal (negsuc n) (negsuc m) e l = ap negsuc (omega (arith, e))
+
     only : Nearest a d r → r ≡ roundDiv a d
     only k =
         let n = round-nearest a d h in
         let e = le-antisymm (k .nearest (roundDiv a d)) (n .nearest r) in
-        ≤-antisym (n .upwards r e) (k .upwards (roundDiv a d) (sym e))
+        equal r (roundDiv a d) (le-antisymm (n .away r e) (k .away (roundDiv a d) (sym e)))
+        (lt-of-mul-lt-mul-right (natAbs d) (omega (arith, far a d r (roundDiv a d), round-near a d h, e, abs-pos h)))
 
--- ---- by a quotient towards zero of a + ⌊d ÷ 2⌋, as the code goes: where its remainder is negative, the floor is one lower
+-- equal fractions round alike
+magnitude-same : (n m k l : ℕ) → 0 < m → 0 < l → n * l ≡ k * m → roundMagnitude n m ≡ roundMagnitude k l
+unfolding roundMagnitude
+magnitude-same n m k l hm hl e =
+    sym (mul-div-mul-left (2 * n + m) (2 * m) hl)
+    ∙ ap₂ _/_ (omega (arith, e)) (omega arith)
+    ∙ mul-div-mul-left {m = m} (2 * k + l) (2 * l) hm
 
--- ⌊d ÷ 2⌋, twice: d, or one less
-pub half-bounds : (d : ℤ) → ((pos 2 *ℤ shrZ d 2) ≤ℤ d) × (d <ℤ (pos 2 *ℤ shrZ d 2 +ℤ pos 2))
-half-bounds d = floor-bounds d 2 (omega arith)
+level : {x y : ℤ} → x ≡ y → x ≤ℤ y
+level {x} e = subst (λ (z : ℤ). x ≤ℤ z) e (≤ℤ-refl x)
 
-module _ (a d : ℤ) (h : pos 0 <ℤ d) where
-  abbrev raised : ℤ
-  raised = a +ℤ shrZ d 2
+pub round-same : (a d b c : ℤ) → pos 0 <ℤ d → pos 0 <ℤ c → a *ℤ c ≡ b *ℤ d → roundDiv a d ≡ roundDiv b c
+unfolding roundDiv
+round-same a (negsuc m) b c hd hc e = absurd (hd .lt)
+round-same a (pos m) b (negsuc l) hd hc e = absurd (hc .lt)
+round-same (pos n) (pos m) (pos k) (pos l) hd hc e = ap pos (magnitude-same n m k l (abs-pos hd) (abs-pos hc) (ap natAbs e))
+round-same (pos n) (pos m) (negsuc k) (pos l) hd hc e = absurd (omega (arith, lt-parts hd, le? (nat n ⊗ nat l) (⟨ negsuc k ⟩ ⊗ nat m) (level e)))
+round-same (negsuc n) (pos m) (pos k) (pos l) hd hc e = absurd (omega (arith, lt-parts hc, le? (nat k ⊗ nat m) (⟨ negsuc n ⟩ ⊗ nat l) (level (sym e))))
+round-same (negsuc n) (pos m) (negsuc k) (pos l) hd hc e = ap (λ (z : ℕ). negℤ (pos z)) (magnitude-same (suc n) m (suc k) l (abs-pos hd) (abs-pos hc) (simp abs-mul at (ap natAbs e)))
 
-  -- what is left of a past the quotient and k more
-  past : (k : ℤ) → (quotZ raised d +ℤ k) *ℤ d -ℤ a ≡ k *ℤ d -ℤ remZ raised d +ℤ shrZ d 2
-  past k =
-      ap (λ (z : ℤ). (quotZ raised d +ℤ k) *ℤ d -ℤ z) (back a (shrZ d 2) ∙ ap (λ (z : ℤ). z -ℤ shrZ d 2) (quot-rem raised d h))
-      ∙ cancelled (quotZ raised d) k d (remZ raised d) (shrZ d 2)
-    where
-      back : (a x : ℤ) → a ≡ (a +ℤ x) -ℤ x
-      back a x = ring (a ∷ x ∷ []) (search polynomials depth 20 fits 9000) refl
+-- ---- by a quotient towards zero, as the code goes: half of d goes in front, with the sign of a
 
-      cancelled : (q k d r x : ℤ) → (q +ℤ k) *ℤ d -ℤ (q *ℤ d +ℤ r -ℤ x) ≡ k *ℤ d -ℤ r +ℤ x
-      cancelled q k d r x = ring (q ∷ k ∷ d ∷ r ∷ x ∷ []) (search polynomials depth 20 fits 9000) refl
+pub half-within : {n : ℕ} (d : ℤ) → pos 0 <ℤ d → d within (2 * n) → (shrZ d 2) within n
+half-within (negsuc m) h l = absurd (h .lt)
+half-within (pos m) h l = record { abs = omega (arith, div-add-mod m 2, l .abs) }
 
-  by-rest : (k : ℤ) → let e = k *ℤ d -ℤ remZ raised d +ℤ shrZ d 2 in negℤ d <ℤ (pos 2 *ℤ e) → (pos 2 *ℤ e) ≤ℤ d → quotZ raised d +ℤ k ≡ roundDiv a d
-  by-rest k l u = round-unique a d (quotZ raised d +ℤ k) h (rw (past k) l) (rw (past k) u)
+quotient-is : (n m : ℕ) → 0 < m → (n + m / 2) / m ≡ roundMagnitude n m
+quotient-is n m h =
+    let z = n + m / 2 in
+    let q = div-add-mod z m in
+    let e = div-add-mod m 2 in
+    magnitude-unique n m (z / m) h (omega (arith, q, e)) (omega (arith, q, e, mod-lt z h, mod-lt m two))
+  where
+    two : 0 < 2
+    two = omega arith
 
-  pub round-quotient : pos 0 ≤ℤ remZ raised d → quotZ raised d ≡ roundDiv a d
-  round-quotient l =
-      let X = ⟨ shrZ d 2 ⟩ in
-      let E = nat 2 ⊗ (nat 0 ⊗ ⟨ d ⟩ ⊝ ⟨ remZ raised d ⟩ ⊕ X) in
-      sym (+ℤ-idr (quotZ raised d))
-      ∙ by-rest (pos 0) (lt! (minus ⟨ d ⟩) E (omega (ints, rem-below raised d h, lt? ⟨ d ⟩ (nat 2 ⊗ X ⊕ nat 2) (half-bounds d .1))))
-      (le! E ⟨ d ⟩ (omega (ints, le? (nat 2 ⊗ X) ⟨ d ⟩ (half-bounds d .0))))
+pub quotient-above : (a d : ℤ) → pos 0 <ℤ d → pos 0 ≤ℤ a → quotZ (a +ℤ shrZ d 2) d ≡ roundDiv a d
+unfolding roundDiv
+quotient-above a (negsuc m) h l = absurd (h .lt)
+quotient-above (pos n) (pos m) h l = ap pos (quotient-is n m (abs-pos h))
+quotient-above (negsuc n) (pos m) h l = absurd (l .le)
 
-  pub round-quotient-down : remZ raised d <ℤ pos 0 → quotZ raised d -ℤ pos 1 ≡ roundDiv a d
-  round-quotient-down l =
-      let X = ⟨ shrZ d 2 ⟩ in
-      let E = nat 2 ⊗ (minus (nat 1) ⊗ ⟨ d ⟩ ⊝ ⟨ remZ raised d ⟩ ⊕ X) in
-      by-rest (negℤ (pos 1)) (lt! (minus ⟨ d ⟩) E (omega (ints, lt? ⟨ d ⟩ (nat 2 ⊗ X ⊕ nat 2) (half-bounds d .1))))
-      (le! E ⟨ d ⟩ (omega (ints, lt? (minus ⟨ d ⟩) ⟨ remZ raised d ⟩ (rem-above raised d h), le? (nat 2 ⊗ X) ⟨ d ⟩ (half-bounds d .0))))
+pub quotient-below : (a d : ℤ) → pos 0 <ℤ d → a <ℤ pos 0 → quotZ (a -ℤ shrZ d 2) d ≡ roundDiv a d
+unfolding roundDiv
+quotient-below a (negsuc m) h l = absurd (h .lt)
+quotient-below (pos n) (pos m) h l = absurd (omega (arith, lt-parts l))
+quotient-below (negsuc n) (pos m) h l =
+    ap (λ (z : ℤ). quotZ z (pos m)) (farther n (m / 2))
+    ∙ ap (λ (z : ℕ). negℤ (pos (z / m))) (sym (suc-add n (m / 2)))
+    ∙ ap (λ (z : ℕ). negℤ (pos z)) (quotient-is (suc n) m (abs-pos h))
+  where
+    farther : (n k : ℕ) → negsuc n -ℤ pos k ≡ negsuc (n + k)
+    farther n k = eq! (⟨ negsuc n ⟩ ⊝ nat k) ⟨ negsuc (n + k) ⟩ (omega arith)
 
--- ---- by a floor, for an even d, as the code goes where d is a power of two: ⌊(a + d/2) ÷ d⌋
+-- ---- by a floor, for an even d, as the code goes where d is a power of two: ⌊(a + d/2) ÷ d⌋, of a negative a ⌊(a + d/2 − 1) ÷ d⌋
 
-pub round-floor : (a : ℤ) (half : ℕ) → 0 < half → shrZ (a +ℤ pos half) (2 * half) ≡ roundDiv a (pos (2 * half))
-round-floor a half h =
-    let d = nat (2 * half) in
-    let r = shrZ (a +ℤ pos half) (2 * half) in
-    let b = floor-bounds (a +ℤ pos half) (2 * half) (omega arith) in
-    let E = nat 2 ⊗ (⟨ r ⟩ ⊗ d ⊝ ⟨ a ⟩) in
-    round-unique a (pos (2 * half)) r (lt! (nat 0) d (omega arith))
-    (lt! (minus d) E (omega (arith, lt? (⟨ a ⟩ ⊕ nat half) (d ⊗ ⟨ r ⟩ ⊕ d) (b .1))))
-    (le! E d (omega (arith, le? (d ⊗ ⟨ r ⟩) (⟨ a ⟩ ⊕ nat half) (b .0))))
+-- m·⌊z ÷ m⌋ ≤ z < m·⌊z ÷ m⌋ + m
+floor-bounds : (z : ℤ) (m : ℕ) → 0 < m → ((pos m *ℤ shrZ z m) ≤ℤ z) × (z <ℤ (pos m *ℤ shrZ z m +ℤ pos m))
+floor-bounds (pos a) m h = (
+  le! (nat m ⊗ nat (a / m)) (nat a) (omega (arith, div-add-mod a m)),
+  lt! (nat a) (nat m ⊗ nat (a / m) ⊕ nat m) (omega (arith, div-add-mod a m, mod-lt a h)),
+)
+floor-bounds (negsuc a) m h = (
+  le! (nat m ⊗ ⟨ negsuc (a / m) ⟩) ⟨ negsuc a ⟩ (omega (arith, div-add-mod a m, mod-lt a h)),
+  lt! ⟨ negsuc a ⟩ (nat m ⊗ ⟨ negsuc (a / m) ⟩ ⊕ nat m) (omega (arith, div-add-mod a m)),
+)
+
+floor-unique : (z q : ℤ) (m : ℕ) → 0 < m → (pos m *ℤ q) ≤ℤ z → z <ℤ (pos m *ℤ q +ℤ pos m) → shrZ z m ≡ q
+floor-unique z q m h l u =
+    let b = floor-bounds z m h in
+    let Q = ⟨ q ⟩ in
+    let S = ⟨ shrZ z m ⟩ in
+    let low = le? (nat m ⊗ Q) ⟨ z ⟩ l in
+    let high = lt? ⟨ z ⟩ (nat m ⊗ Q ⊕ nat m) u in
+    let floor = le? (nat m ⊗ S) ⟨ z ⟩ (b .0) in
+    let next = lt? ⟨ z ⟩ (nat m ⊗ S ⊕ nat m) (b .1) in
+    ≤-antisym (≤-unless (shrZ z m) q (λ g. omega (arith, mul-le-mul-left m (lt-parts g), floor, high))) (≤-unless q (shrZ z m) (λ g. omega (arith, mul-le-mul-left m (lt-parts g), low, next)))
+
+shift-above : (n half k : ℕ) → 0 < half → k ≡ 0 → shrZ (pos n +ℤ pos half +ℤ pos k) (2 * half) ≡ pos (roundMagnitude n (2 * half))
+shift-above n half k h e =
+    let b = magnitude-bounds n (2 * half) (omega arith) in
+    let Z = nat n ⊕ nat half ⊕ nat k in
+    let D = nat (2 * half) ⊗ nat (roundMagnitude n (2 * half)) in
+    floor-unique _ _ (2 * half) (omega arith) (le! D Z (omega (arith, b .0, e))) (lt! Z (D ⊕ nat (2 * half)) (omega (arith, b .1, e)))
+
+shift-below : (n half k : ℕ) → 0 < half → k ≡ 0 → shrZ (negsuc n +ℤ pos half +ℤ negsuc k) (2 * half) ≡ negℤ (pos (roundMagnitude (suc n) (2 * half)))
+shift-below n half k h e =
+    let b = magnitude-bounds (suc n) (2 * half) (omega arith) in
+    let Z = ⟨ negsuc n ⟩ ⊕ nat half ⊕ ⟨ negsuc k ⟩ in
+    let D = nat (2 * half) ⊗ minus (nat (roundMagnitude (suc n) (2 * half))) in
+    floor-unique _ _ (2 * half) (omega arith) (le! D Z (omega (arith, b .1, e))) (lt! Z (D ⊕ nat (2 * half)) (omega (arith, b .0, e)))
+
+-- what fits is, shifted by 63, 0, or −1 where it is negative
+pub sign-within : (a : ℤ) → SFits w64 a → (shrZ a (2 ^ 63)) within 1
+sign-within (pos n) f = record { abs = rw (div-eq-of-lt (f .sfits)) (omega arith) }
+sign-within (negsuc n) f = record { abs = rw (div-eq-of-lt (f .sfits)) (omega arith) }
+
+pub round-shift : (a : ℤ) (half : ℕ) → 0 < half → SFits w64 a → shrZ (a +ℤ pos half +ℤ shrZ a (2 ^ 63)) (2 * half) ≡ roundDiv a (pos (2 * half))
+unfolding roundDiv
+round-shift (pos n) half h f = shift-above n half (n / 2 ^ 63) h (div-eq-of-lt (f .sfits))
+round-shift (negsuc n) half h f = shift-below n half (n / 2 ^ 63) h (div-eq-of-lt (f .sfits))
 
 -- it fits where a does
 pub round-fits : {w : Width} (a d : ℤ) → pos 0 <ℤ d → SFits w a → SFits w (roundDiv a d)

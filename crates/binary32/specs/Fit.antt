@@ -31,7 +31,7 @@ pub record Fit (r : Range) (x : Float) : Type 0 where
   -- what counts in whole numbers takes them alone
   pub whole : r .shift ≡ 0 → Whole (exact x)
 
--- Nothing else is taken, and what is taken is rounded to the nearest count, halves upwards.
+-- Nothing else is taken, and what is taken is rounded to the nearest count, halves away from zero.
 pub record FitTaken : Type 0 where
   pub taken : (r : Range) (x : Float) → (takes r x ≡ true) ↔ Fit r x
   pub rounded : (r : Range) (x : Float) → Fit r x → Nearest (inCounts r x .top) (inCounts r x .low) (counted r x)

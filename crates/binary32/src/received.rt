@@ -64,13 +64,15 @@ pub fn takes(range: Range, x: f32) -> bool
     true
 }
 
-// The count nearest to x, halves upwards; 0 where x is unfit.
+// The count nearest to x, halves away from zero; 0 where x is unfit. Half a count goes in front, and one less where x is negative, of
+// which a shift by 63 is −1.
 pub fn count(range: Range, x: f32) -> i64
     requires { ⌜ Computable range ⌝ }
     ensures { λ r. ⌜ r ≡ counted range x ⌝ }
 {
     if takes(range, x) {
-        return (units_of(x, range.shift) + 0x100_0000) >> 25;
+        let size = units_of(x, range.shift);
+        return (size + 0x100_0000 + (size >> 63)) >> 25;
     }
     0
 }

@@ -18,8 +18,8 @@ pub record Filtered (f : Filter) (first : Bool) (previous held input new : ℤ) 
   -- "Otherwise, if the input differs .. by more than FFLV, held = input;", from "the previous .. input": above it, or below it
   pub far-above : (previous +ℤ f .fflv) <ℤ input → new ≡ input
   pub far-below : (input +ℤ f .fflv) <ℤ previous → new ≡ input
-  -- "else held = held + round((input − held) ÷ FFST).", wherever the held value is: by what is nearest, halves upwards; FFLV apart is not
-  -- more than FFLV
+  -- "else held = held + round((input − held) ÷ FFST).", wherever the held value is: by what is nearest, halves away from zero (Change 5);
+  -- FFLV apart is not more than FFLV
   pub near : first ≡ false → pos 0 <ℤ f .fflv → pos 0 <ℤ f .ffst → input ≤ℤ (previous +ℤ f .fflv) → previous ≤ℤ (input +ℤ f .fflv) → Nearest (input -ℤ held) (f .ffst) (new -ℤ held)
 
 pub record FilterStated : Type 0 where

@@ -109,13 +109,15 @@ pub fn values_from(
 // 2^27: half of the 2^28 parts that are 1.
 const HALF: i64 = 134_217_728;
 
-// round(x × gain ÷ 2^28): for y, raw cell and raw system. Halves upwards it is ⌊(x × gain + 2^27) ÷ 2^28⌋, and a shift divides
-// by a power of two downwards. The sum stays within an i64, of which the product takes at most 99.18 %.
+// round(x × gain ÷ 2^28): for y, raw cell and raw system. Halves away from zero it is ⌊(product + 2^27) ÷ 2^28⌋, and of a negative
+// product one less goes in front: a shift by 63 is then −1, and else 0. A shift divides by a power of two downwards. The sum stays
+// within an i64, of which the product takes at most 99.18 %.
 fn scale(x: i64, gain: i64) -> i64
     requires { ⌜ (x *ℤ gain) within 9147936743096320000 ⌝ }
     ensures { λ r. ⌜ r ≡ scaled x gain ⌝ }
 {
-    (x * gain + HALF) >> 28
+    let product = x * gain;
+    (product + HALF + (product >> 63)) >> 28
 }
 
 fn hold_within(lo: i64, hi: i64, x: i64) -> i64

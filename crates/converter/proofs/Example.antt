@@ -5,7 +5,7 @@ use mathlib.Core.Bool.{true}
 use mathlib.Core.List.{List, [], _∷_}
 use lib.IntN.{pos}
 use lib.Ieee.{ofBits}
-use Rattle.arithmetic.specs.Round.{roundDiv, floorDiv}
+use Rattle.arithmetic.specs.Round.{roundDiv, roundMagnitude}
 use Rattle.arithmetic.specs.Table.{between, interpolated}
 use Rattle.figures.specs.Default.{defaultSheet}
 use Rattle.figures.specs.Rows.{linearities, temperatures}
@@ -63,7 +63,7 @@ pub record Example (d : Device) : Type 0 where
   pub cgai : d .setup .figures .cell .cgai ≡ pos 536870912
 
 pub example : Example (run start calls)
-unfolding roundDiv floorDiv between interpolated defaultSheet temperatures linearities hold filtered scaled y rawCell craw cell rawSystem sraw sys bitAt statOf valuesOf takes nearest counted
+unfolding roundDiv roundMagnitude between interpolated defaultSheet temperatures linearities hold filtered scaled y rawCell craw cell rawSystem sraw sys bitAt statOf valuesOf takes nearest counted
     rangeOf ofBits shifted shifts withByte accessOf checked toUs forUs accessAsked writeOf writeAsked judged outside badReading larger smaller peakAfter trofAfter readingsAfter reading.stateAfterValues reading.stateAfterReading unusedZero isFigure written cellWith
     temperaturePointWith temperatureWith linearityPointWith linearityWith systemWith filterWith withFigure shortOf wrongCount outOfRange notBelow tooSteep cellNumber temperatureNumber temperaturePointNumber linearityNumber
     linearityPointNumber systemNumber filterNumber sectionsNumber figuresNumber copyFits applied setupWritten setupActed setupBy fresh snapped acted flagged stateBy

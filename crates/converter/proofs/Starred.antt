@@ -2,7 +2,7 @@
 use mathlib.Core.Path.{refl}
 use lib.Ieee.{toBits, ofBits}
 use Rattle.integers.specs.Bytes.{signedOf}
-use Rattle.arithmetic.specs.Round.{roundDiv, floorDiv}
+use Rattle.arithmetic.specs.Round.{roundDiv, roundMagnitude}
 use Rattle.arithmetic.specs.Table.{between, interpolated}
 use Rattle.figures.specs.Default.{defaultSheet}
 use Rattle.figures.specs.Rows.{linearities, temperatures}
@@ -20,7 +20,7 @@ use Rattle.register.specs.Register.{accessOf, rangeOf}
 use Rattle.converter.specs.Starred.{Starred}
 
 pub starred-hold : Starred
-unfolding roundDiv floorDiv between interpolated defaultSheet temperatures linearities hold filtered scaled y rawCell craw cell rawSystem bitAt statOf toBits ofBits countFloat takes nearest counted accessOf rangeOf
+unfolding roundDiv roundMagnitude between interpolated defaultSheet temperatures linearities hold filtered scaled y rawCell craw cell rawSystem bitAt statOf toBits ofBits countFloat takes nearest counted accessOf rangeOf
     sheetNumber sectionsNumber cellNumber temperatureNumber temperaturePointNumber linearityNumber linearityPointNumber systemNumber filterNumber shortOf wrongCount outOfRange notBelow tooSteep trailing figuresOf cellAt temperatureAt
     temperaturePointAt linearityAt linearityPointAt systemAt filterAt figureAt signedOf sheetBytes cellBytes temperatureBytes linearityBytes systemBytes filterBytes temperaturePointBytes linearityPointBytes figureBytes
 starred-hold = record { hold = refl; all = refl }

@@ -21,8 +21,8 @@
 --        fits (search i64s depth 9) tt       shows that an operation does not overflow
 --        plain (search i64s depth 9) tt      gives the plain value
 --        small (search i64s depth 9) tt      shows `within` of what is handed to a callee
---    (depth: two for each nested operation, and two more). Where the bounds are no numerals, `simp (toZ-ofZ, f, g)` strips the
---    bits by proofs f, g that the plain values fit, and `fits!` makes those: arithmetic's `round_div` goes that way.
+--    (depth: two for each nested operation, and two more). Where a value is no sum or product, `simp (toZ-ofZ, f, g)` strips the
+--    bits by proofs f, g that the plain values fit: arithmetic's `round_div` goes that way.
 --
 -- Beside these, Bits: or and exclusive or are associative; Words: bytes and the number that they write; TwosComplement: a
 -- number of 64 bits, its word and its eight bytes; and Puts: texts that are put into a buffer.

@@ -6,10 +6,10 @@ use Prim.Native.Nat.{ℕ, _+_, _*_, _-_, _≤_}
 use native.Mathlib.Omega.{arith}
 use native.Mathlib.Nat.{mul-le-mul-right}
 use lib.Dec.{T, nleb→lt, lt→ltb}
-use lib.IntN.{ℤ, pos, negsuc, _-ℤ_, _*ℤ_}
+use lib.IntN.{ℤ, pos, negsuc, negℤ, _-ℤ_, _*ℤ_}
 use lib.Signed.{ltZ, leZ, _≤ℤ_, _<ℤ_, leZ-yes, ltZ-yes, ltZ-no, clashℤ}
 use Rattle.integers.proofs.Parts.{parts-le, parts-eq, le-parts, lt-parts, ints}
-use Rattle.integers.proofs.Difference.{⟨_⟩, nat, _⊝_, _⊗_, le!, lt! }
+use Rattle.integers.proofs.Difference.{⟨_⟩, nat, minus, _⊝_, _⊗_, le!, lt! }
 
 -- ---- a test and the fact that it tells, both ways
 
@@ -97,6 +97,13 @@ pub <-≤ : {a b : ℤ} → a <ℤ b → a ≤ℤ b
 
 pub gap-pos : {a b : ℤ} → a <ℤ b → pos 0 <ℤ (b -ℤ a)
 gap-pos {a} {b} h = lt! (nat 0) (⟨ b ⟩ ⊝ ⟨ a ⟩) (omega ints)
+
+-- what is below is above, with the other sign
+pub neg-le : {a b : ℤ} → a ≤ℤ b → negℤ b ≤ℤ negℤ a
+neg-le {a} {b} h = le! (minus ⟨ b ⟩) (minus ⟨ a ⟩) (omega ints)
+
+pub neg-lt : {a b : ℤ} → a <ℤ b → negℤ b <ℤ negℤ a
+neg-lt {a} {b} h = lt! (minus ⟨ b ⟩) (minus ⟨ a ⟩) (omega ints)
 
 -- ---- products
 

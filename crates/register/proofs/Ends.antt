@@ -8,7 +8,7 @@ use borrow.Author.Tests.{ltb-true, ltb-false, ne-eqb}
 use lib.Dec.{T, eqb, ltb, eqb→eq, ltb→lt}
 use lib.Ieee.{ofBits}
 use lib.Ieee.Fits.{and-l, and-r}
-use Rattle.arithmetic.specs.Round.{roundDiv, floorDiv}
+use Rattle.arithmetic.specs.Round.{roundDiv, roundMagnitude}
 use Rattle.binary32.specs.Received.{takes, nearest, counted}
 use Rattle.register.specs.Register.{accessOf, rangeOf}
 use Rattle.register.specs.Ends.{kindOf, EndsHold}
@@ -64,5 +64,5 @@ kinds n = by (ltb n 126) refl
     by false e = ap kindOf (sym (past-last n (ltb-false n 126 e))) ∙ none-said n (ltb-false n 126 e)
 
 pub ends-hold : EndsHold
-unfolding roundDiv floorDiv ofBits takes nearest counted accessOf rangeOf
+unfolding roundDiv roundMagnitude ofBits takes nearest counted accessOf rangeOf
 ends-hold = record { hold = refl; rows = refl; all = refl; kinds = kinds }

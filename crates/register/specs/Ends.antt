@@ -58,10 +58,10 @@ numbers (r ∷ rest) = from (suc (r .last) - r .first) (r .first) ++ numbers res
 abbrev pub minus : ℕ → ℕ
 minus pattern = 2 ^ 31 + pattern
 
--- both ends alike, and the next pattern past each; half a count is rounded upwards
+-- both ends alike, and the next pattern past each; half a count is rounded away from zero (Change 5)
 abbrev pub around : ℕ → ℕ → ℕ → List Trial
 around half top most =
-    (top counts pos most) ∷ refused (top + 1) ∷ (minus top counts negℤ (pos most)) ∷ refused (minus (top + 1)) ∷ (half counts pos 1) ∷ (minus half counts pos 0) ∷ []
+    (top counts pos most) ∷ refused (top + 1) ∷ (minus top counts negℤ (pos most)) ∷ refused (minus (top + 1)) ∷ (half counts pos 1) ∷ (minus half counts negℤ (pos 1)) ∷ []
 
 -- half a count is 2^−17, or 2^−29
 abbrev pub inSteps : ℕ → ℕ → List Trial

@@ -4,7 +4,7 @@ use mathlib.Core.List.{List, _++_}
 use Prim.Native.Nat.{ℕ}
 use lib.ListN.{length, drop}
 use lib.Ieee.{Float, ofBits, toBits, div, neg, round}
-use Rattle.arithmetic.specs.Round.{roundDiv, floorDiv}
+use Rattle.arithmetic.specs.Round.{roundDiv, roundMagnitude}
 use Rattle.binary32.specs.Received.{takes, nearest, counted}
 use Rattle.binary32.specs.ForCode.{Computable}
 use Rattle.binary32.specs.declared.received.Range.{Range}
@@ -19,7 +19,7 @@ use Rattle.modbus.specs.Reply.{silent, unlessSilent, writeReply, exceptionCode,
 -- What a case computes with: to unfold one of these is to unfold all that its line names.
 
 unfoldable pub floats : Unit {0}
-unfolding ofBits toBits div neg round wireBytes countFloat takes nearest counted roundDiv floorDiv accessOf rangeOf
+unfolding ofBits toBits div neg round wireBytes countFloat takes nearest counted roundDiv roundMagnitude accessOf rangeOf
 floats = tt
 
 unfoldable pub frames : Unit {0}

@@ -43,13 +43,14 @@ fn zero_unfit(bits: u32)
 }
 
 pub(crate) fn zeros() {
-    // At and beside half a step: halves go upwards.
+    // At and beside half a step: halves go away from zero.
     zero_is(0x37000000, 1);
-    zero_is(0xb7000000, 0);
+    zero_is(0xb7000000, -1);
     zero_is(0x37c00000, 2);
-    zero_is(0xb7c00000, -1);
+    zero_is(0xb7c00000, -2);
     zero_is(0x36ffffff, 0);
-    zero_is(0xb7000001, -1);
+    zero_is(0xb6ffffff, 0);
+    zero_is(0xb7bfffff, -1);
     // Subnormals, −0.0, just under half a unit, and the two ends.
     zero_is(0x00000001, 0);
     zero_is(0x80000001, 0);
@@ -90,13 +91,14 @@ pub(crate) fn gains() {
     is(register::CGAI, 0x3f8ccccd, 295279008);
     is(register::CGAI, 0x42800000, 17179869184);
     is(register::CGAI, 0xc2800000, -17179869184);
-    // At and beside half a count: halves go upwards. A subnormal and −0.0.
+    // At and beside half a count: halves go away from zero. A subnormal and −0.0.
     is(register::CGAI, 0x31000000, 1);
-    is(register::CGAI, 0xb1000000, 0);
+    is(register::CGAI, 0xb1000000, -1);
     is(register::CGAI, 0x31c00000, 2);
-    is(register::CGAI, 0xb1c00000, -1);
+    is(register::CGAI, 0xb1c00000, -2);
     is(register::CGAI, 0x30ffffff, 0);
-    is(register::CGAI, 0xb1000001, -1);
+    is(register::CGAI, 0xb0ffffff, 0);
+    is(register::CGAI, 0xb1bfffff, -1);
     is(register::CGAI, 0x00000001, 0);
     is(register::CGAI, 0x80000000, 0);
     // Beyond the ends, infinities and a NaN.
@@ -130,7 +132,7 @@ pub(crate) fn adjustments() {
 pub(crate) fn offsets() {
     // COFS: halves, the ends, just beyond, infinities and a NaN.
     is(register::COFS, 0x37000000, 1);
-    is(register::COFS, 0xb7000000, 0);
+    is(register::COFS, 0xb7000000, -1);
     is(register::COFS, 0x43960000, 19660800);
     is(register::COFS, 0xc3960000, -19660800);
     unfit(register::COFS, 0x43960001);

@@ -9,14 +9,12 @@ use lib.IntN.{ℤ, pos, _+ℤ_}
 use lib.Signed.{shrZ, ltZ-yes}
 use lib.Ieee.{Float, binary32, fits}
 use mir.Syntax.{w64}
-use mir.Val.{SFits, toZ, ofZ}
+use mir.Val.{SFits}
 use mir.ValLaws.{toZ-ofZ}
 use Rattle.integers.specs.Within.{_within_}
-use Rattle.integers.proofs.Parts.{abs-parts}
-use Rattle.integers.proofs.Difference.{⟨_⟩, nat, _⊕_}
-use Rattle.integers.proofs.Machine.{fits! }
+use Rattle.integers.proofs.Machine.{fits as fits-i64, known, literal, sum}
 use Rattle.arithmetic.specs.Round.{roundDiv}
-use Rattle.arithmetic.proofs.Round.{round-floor, round-fits}
+use Rattle.arithmetic.proofs.Round.{round-shift, round-fits, sign-within}
 use Rattle.binary32.specs.Received.{takes, nearest, counted}
 use Rattle.binary32.specs.Units.{unitsOf}
 use Rattle.binary32.specs.declared.received.Range.{Range}
@@ -31,32 +29,38 @@ counted-at : (r : Range) (x : Float) (b : Bool) → b ≡ takes r x → cond b (
 unfolding counted
 counted-at r x b h = ap (λ (t : Bool). cond t (nearest (r .shift) x) (pos 0)) h
 
--- units, raised by half a count, and shifted
+-- units, raised by half a count and lowered by the sign, and shifted
 module _ {u : ℤ} (w : u within (2 ^ 61)) where
   plain-fit : SFits w64 u
-  plain-fit = fits! ⟨ u ⟩ (omega (arith, abs-parts u, w .abs))
+  plain-fit = fits-i64 (known w) tt
 
-  raised-fit : SFits w64 (u +ℤ pos 16777216)
-  raised-fit = fits! (⟨ u ⟩ ⊕ nat 16777216) (omega (arith, abs-parts u, w .abs))
+  sign-in : (shrZ u (2 ^ 63)) within 1
+  sign-in = sign-within u plain-fit
 
-  shifted : toZ w64 (ofZ w64 (shrZ (toZ w64 (ofZ w64 (toZ w64 (ofZ w64 u) +ℤ pos 16777216))) 33554432)) ≡ roundDiv u (pos 33554432)
-  shifted =
-      ap (λ (y : ℤ). toZ w64 (ofZ w64 (shrZ (toZ w64 (ofZ w64 (y +ℤ pos 16777216))) 33554432))) (toZ-ofZ w64 u plain-fit)
-      ∙ ap (λ (y : ℤ). toZ w64 (ofZ w64 (shrZ y 33554432))) (toZ-ofZ w64 (u +ℤ pos 16777216) raised-fit)
-      ∙ ap (λ (y : ℤ). toZ w64 (ofZ w64 y)) (round-floor u 16777216 (omega arith))
-      ∙ toZ-ofZ w64 (roundDiv u (pos 33554432)) (round-fits u (pos 33554432) (ltZ-yes tt) plain-fit)
+  sign-fit : SFits w64 (shrZ u (2 ^ 63))
+  sign-fit = fits-i64 (known sign-in) tt
+
+  raised-fit : SFits w64 (u +ℤ pos (2 ^ 24))
+  raised-fit = fits-i64 (sum (known w) (literal (2 ^ 24))) tt
+
+  sum-fit : SFits w64 (u +ℤ pos (2 ^ 24) +ℤ shrZ u (2 ^ 63))
+  sum-fit = fits-i64 (sum (sum (known w) (literal (2 ^ 24))) (known sign-in)) tt
 
 within-units : {u : ℤ} (shift : ℕ) (x : Float) → u ≡ unitsOf shift x → u within (2 ^ 61)
 within-units shift x e = rw e (units-within shift x)
 
 add-result : tie.Need-add-result
-add-result c = let w = within-units _ _ (c .units-of .ensures) in rw (toZ-ofZ w64 (c .units-of .result) (plain-fit w)) (raised-fit w)
+add-result c = let w = within-units _ _ (c .units-of .ensures) in simp (toZ-ofZ, plain-fit w) (raised-fit w)
+
+add-result-2 : tie.Need-add-result-2
+add-result-2 c = let w = within-units _ _ (c .units-of .ensures) in simp (toZ-ofZ, plain-fit w, raised-fit w, sign-fit w) (sum-fit w)
 
 returns : tie.Need-returns
 returns c =
     let s = c .before .before .before in
     let h : true ≡ takes (s .args .range) (s .args .x) = sym (c .before .if1 .taken) ∙ c .before .before .takes .ensures in
-    shifted (within-units _ _ (c .units-of .ensures))
+    let w = within-units _ _ (c .units-of .ensures) in
+    simp (toZ-ofZ, plain-fit w, raised-fit w, sign-fit w, sum-fit w) (rw (round-shift (c .units-of .result) (2 ^ 24) (omega arith) (plain-fit w)) (toZ-ofZ w64 _ (round-fits (c .units-of .result) (pos (2 ^ 25)) (ltZ-yes tt) (plain-fit w))))
     ∙ ap (λ (u : ℤ). roundDiv u (pos 33554432)) (c .units-of .ensures)
     ∙ sym (taken-nearest (s .args .range) (s .pre) (s .args .x) (fits-x s) (sym h))
     ∙ counted-at (s .args .range) (s .args .x) true h
@@ -65,4 +69,4 @@ returns-2 : tie.Need-returns-2
 returns-2 c = let s = c .before .before in counted-at (s .args .range) (s .args .x) false (sym (c .if1 .left) ∙ c .before .takes .ensures)
 
 pub count-spec : {M : Type 1} → statement M
-count-spec = tie.close (tie.spec (λ c κs. search needs) (λ c κs. search needs) add-result returns returns-2)
+count-spec = tie.close (tie.spec (λ c κs. search needs) (λ c κs. search needs) add-result add-result-2 returns returns-2)
