@@ -5,3 +5,4 @@ pub mod Rows
 pub mod Near
 pub mod Exact
 pub mod Slope
+pub mod Mirror

@@ -20,7 +20,7 @@ use Rattle.arithmetic.proofs.Round.{round-at-least, round-at-most, roun
 
 -- ---- at a point
 
-between-at : (j : ℕ) (p q : Point) → place p <ℤ place q → between j p q (place q) ≡ column j q
+pub between-at : (j : ℕ) (p q : Point) → place p <ℤ place q → between j p q (place q) ≡ column j q
 unfolding between
 between-at j p q h =
     ap (λ (r : ℤ). column j p +ℤ r) (round-whole (column j q -ℤ column j p) (place q -ℤ place p) (gap-pos h))

@@ -11,3 +11,4 @@ pub mod StatBits
 pub mod Flags
 pub mod Faithful
 pub mod Distances
+pub mod Pulling

@@ -3,6 +3,7 @@ pub mod Hold
 pub mod Filter
 pub mod Filtered
 pub mod Reading
+pub mod Pulling
 pub mod Exact
 pub mod Stat
 pub mod Values

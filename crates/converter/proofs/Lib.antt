@@ -18,6 +18,7 @@ mod Snapshot
 mod Shown
 pub mod Agrees
 pub mod Jumps
+pub mod Pulling
 pub mod Panel
 pub mod Example
 pub mod Starred

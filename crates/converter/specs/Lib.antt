@@ -7,6 +7,7 @@ pub mod Log
 pub mod Corners
 pub mod Snapshot
 pub mod Jumps
+pub mod Pulling
 pub mod History
 pub mod Starred
 pub mod Station

@@ -8,7 +8,8 @@ use lib.IntN.{ℤ, pos, negℤ}
 use lib.ListN.{length}
 use lib.Ieee.{Float, fin, binary32, toBits, ofBits}
 use Rattle.arithmetic.specs.Round.{roundDiv}
-use Rattle.arithmetic.specs.Table.{Point, interpolated}
+use Rattle.arithmetic.specs.Table.{interpolated}
+use Rattle.arithmetic.specs.Mirror.{twoPoints}
 use Rattle.figures.specs.Default.{defaultSheet, apart}
 use Rattle.figures.specs.Unused.{noTemperature}
 use Rattle.figures.specs.declared.Calibration.{Calibration}
@@ -24,10 +25,6 @@ use Rattle.register.specs.Number.{SZ}
 use Rattle.register.specs.Register.{rangeOf}
 
 -- ---- what the cases are about
-
--- "Points 0→0, 4→10"
-abbrev pub twoPoints : List Point
-twoPoints = (pos 0 ∷ pos 0 ∷ []) ∷ (pos 4 ∷ pos 10 ∷ []) ∷ []
 
 -- "CGAI 5,368,709,120, .. COFS 0", with g at every temperature: CTG g at both points
 abbrev pub gainOf20 : ℤ → Calibration
@@ -95,10 +92,10 @@ worked (becomes pattern _ _ _) =
 
 abbrev pub starred : List Case
 starred =
-    -- "round: 5÷2 is 3; −5÷2 is −2; −3÷2 is −1."
+    -- "round: 5÷2 is 3;", and Change 5: "In 01, −5÷2 becomes −3, −3÷2 becomes −2,"
     rounded (pos 5) (pos 2) (pos 3)
-    ∷ rounded (negℤ (pos 5)) (pos 2) (negℤ (pos 2))
-    ∷ rounded (negℤ (pos 3)) (pos 2) (negℤ (pos 1))
+    ∷ rounded (negℤ (pos 5)) (pos 2) (negℤ (pos 3))
+    ∷ rounded (negℤ (pos 3)) (pos 2) (negℤ (pos 2))
     -- "Points 0→0, 4→10: at 1 gives 3; at −7 gives 0; at 9 gives 10."
     ∷ atPoints (pos 1) (pos 3)
     ∷ atPoints (negℤ (pos 7)) (pos 0)
@@ -120,9 +117,9 @@ starred =
     -- "CLX 400 apart: CLK 100 apart is accepted, 101 is refused with 5."
     ∷ sheetJudged (pos 100) 0
     ∷ sheetJudged (pos 101) 5
-    -- "SZ 2^−17 becomes 1 step, −2^−17 becomes 0." `fin s m e` is m × 2^e, negative where s is `true`.
+    -- "SZ 2^−17 becomes 1 step,", and Change 5: "SZ −2^−17 becomes −1 step". `fin s m e` is m × 2^e, negative where s is `true`.
     ∷ becomes 0x37000000 (fin false 1 (negℤ (pos 17))) true (pos 1)
-    ∷ becomes 0xB7000000 (fin true 1 (negℤ (pos 17))) true (pos 0)
+    ∷ becomes 0xB7000000 (fin true 1 (negℤ (pos 17))) true (negℤ (pos 1))
     ∷ []
 
 -- Each case is worked from what it asks: of every kind some case has a result that is not 0, so that none is taken over. And no

@@ -1,0 +1,64 @@
+-- Change 5 over whole runs: "Test rigs load cells both ways". Two devices, made of a sheet and of one whose figures mirror its own, and any
+-- list of readings, pushed on the one and, ELEC with the other sign, pulled on the other.
+use mathlib.Core.Path.{_≡_}
+use mathlib.Core.List.{List, map}
+use Prim.Native.Nat.{ℕ}
+use lib.IntN.{ℤ, negℤ, _+ℤ_}
+use Rattle.integers.specs.Within.{_within_}
+use Rattle.arithmetic.specs.Keeps.{ColumnWithin}
+use Rattle.figures.specs.Rows.{linearities}
+use Rattle.figures.specs.Mirror.{Mirrors}
+use Rattle.sheet.specs.Read.{readSheet}
+use Rattle.state.specs.declared.Readings.{Readings}
+use Rattle.converter.specs.Making.{made}
+use Rattle.converter.specs.Call.{Call, reading, number, run}
+use Rattle.converter.specs.declared.Device.{Device}
+use Rattle.converter.specs.declared.corner.Sample.{Sample}
+
+abbrev pub push : Sample → Call
+push x = reading (x .elec) (x .temp) (x .integrity)
+
+abbrev pub pull : Sample → Call
+pull x = reading (negℤ (x .elec)) (x .temp) (x .integrity)
+
+-- what the pushed device p and the pulled device q show: ELEC as it came and as it is held, and CRAW, with the other sign; CELL to a step or
+-- exactly, and what comes of it to so many
+module _ (step steps : ℕ) (p q : Readings) where
+  pub record Opposite : Type 0 where
+    pub any-is : q .any ≡ p .any
+    pub input-is : q .input ≡ negℤ (p .input)
+    pub elec-is : q .elec ≡ negℤ (p .elec)
+    pub temp-is : q .temp ≡ p .temp
+    pub craw-is : q .values .craw ≡ negℤ (p .values .craw)
+    pub cell-near : (q .values .cell +ℤ p .values .cell) within step
+    pub sraw-near : (q .values .sraw +ℤ p .values .sraw) within steps
+    pub sys-near : (q .values .sys +ℤ p .values .sys) within steps
+    -- a trough of the one is a peak of the other
+    pub peak-near : (q .peak +ℤ p .trof) within steps
+    pub trof-near : (q .trof +ℤ p .peak) within steps
+
+-- a sheet for the cell pushed and one for it pulled, each accepted
+pub record Pair (sheet mirror : List ℕ) (station other : ℕ) : Type 0 where
+  pub accepted : made sheet station .number ≡ 0
+  pub mirror-accepted : made mirror other .number ≡ 0
+  pub mirrors : Mirrors (readSheet sheet .figures) (readSheet mirror .figures)
+
+-- what a device made of a sheet shows after some calls
+abbrev pub shows : List ℕ → ℕ → List Call → Readings
+shows sheet station calls = run (made sheet station .device) calls .state .readings
+
+pub record Mirror (sheet : List ℕ) (station : ℕ) : Type 0 where
+  pub bytes : List ℕ
+  pub pair : Pair sheet bytes station station
+
+pub record BothWays : Type 0 where
+  -- the same readings are turned down, with the same number
+  pub number-is : (d e : Device) (x : Sample) → number e (pull x) ≡ number d (push x)
+  -- after any run
+  pub near : (sheet mirror : List ℕ) (station other : ℕ) → Pair sheet mirror station other
+      → (samples : List Sample) → Opposite 1 8 (shows sheet station (map push samples)) (shows mirror other (map pull samples))
+  -- and exactly, where the sheet corrects nothing: every CLK is 0
+  pub exact : (sheet mirror : List ℕ) (station other : ℕ) → Pair sheet mirror station other → ColumnWithin 1 0 (linearities (readSheet sheet .figures .linearity))
+      → (samples : List Sample) → Opposite 0 0 (shows sheet station (map push samples)) (shows mirror other (map pull samples))
+  -- for every accepted sheet there is such a pair
+  pub paired : (sheet : List ℕ) (station : ℕ) → made sheet station .number ≡ 0 → Mirror sheet station
