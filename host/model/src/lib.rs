@@ -1,5 +1,5 @@
-//! The load cell converter of paper 01, with Changes 1, 2 and 4 of paper 02, in plain Rust, written from the papers
-//! alone.
+//! The load cell converter of paper 01, with Changes 1, 2, 4 and 5 of paper 02, in plain Rust, written from the
+//! papers alone.
 //!
 //! Whole numbers are steps (1/65,536 of a unit) and gains (1/2^28) in `i64`; the widest product,
 //! (CELL - SOFS) x SGAI, is at most 4,259,840,000 x 2^31, which fits. Nothing here uses the heap.

@@ -1,5 +1,6 @@
-//! The edges of paper 01, and the rules of Changes 1, 2 and 4 of paper 02.
+//! The edges of paper 01, and the rules of Changes 1, 2, 4 and 5 of paper 02.
 
+mod halves;
 mod platform;
 
 use crate::bus::crc16;
@@ -17,15 +18,9 @@ fn sheet(f: &Figures) -> Vec<u8> {
 
 #[test]
 fn rounding_and_interpolation() {
-    assert_eq!([round_div(5, 2), round_div(-5, 2), round_div(-3, 2)], [3, -2, -1]);
+    assert_eq!([round_div(5, 2), round_div(-5, 2), round_div(-3, 2)], [3, -3, -2]);
     let at = |x| interpolate(x, &[(0, 0), (4, 10)], |p| *p);
     assert_eq!([at(1), at(-7), at(9), at(0), at(4)], [3, 0, 10, 0, 10]);
-    // Against the definition, nearest with halves upwards: floor((2a + d) / 2d).
-    for d in 1..40_i64 {
-        for a in -200..200_i64 {
-            assert_eq!(round_div(a, d), (2 * a + d).div_euclid(2 * d));
-        }
-    }
     assert_eq!(scale(scale(6_553_600, 5_368_709_120), 1 << 28), 131_072_000);
     assert_eq!(scale(131_072_000, (1 << 28) + 2_684_355), 132_382_720);
 }
@@ -55,8 +50,8 @@ fn floats() {
     assert_eq!(bits, [0x42c8_0000, 0, 0xb780_0000, 0x4380_0000]);
     let steps = |x| SZ.count(x).unwrap();
     let half = 2_f32.powi(-17);
-    assert_eq!([half, -half, -0.0, 3.0 * half, -3.0 * half].map(steps), [1, 0, 0, 2, -1]);
-    assert_eq!([half.next_down(), (-half).next_down()].map(steps), [0, -1]);
+    assert_eq!([half, -half, -0.0, 3.0 * half, -3.0 * half].map(steps), [1, -1, 0, 2, -2]);
+    assert_eq!([half.next_down(), (-half).next_up(), (-half).next_down()].map(steps), [0, 0, -1]);
     assert_eq!([f32::from_bits(1), -f32::from_bits(1)].map(steps), [0, 0]);
     assert_eq!([32_000.0, -32_000.0].map(steps), [2_097_152_000, -2_097_152_000]);
     assert!([32_000_f32.next_up(), f32::NAN, f32::INFINITY].iter().all(|x| SZ.count(*x).is_err()));
@@ -66,13 +61,13 @@ fn floats() {
     }
 }
 
-/// A float in counts by another way: an f64 holds it times 2^28, and the ends of the ranges, exactly.
+/// A float in counts by another way: an f64 holds it times 2^28, and the ends of the ranges, exactly, and its own
+/// rounding goes away from zero on halves.
 fn count_by_f64(range: Range, value: f32) -> Option<i64> {
     let counts = f64::from(value) * f64::from(1_u32 << range.scale);
     let fits = range.least as f64 <= counts && counts <= range.most as f64;
     let whole = range.scale != WHOLE || counts.fract() == 0.0;
-    let up = i64::from(counts - counts.floor() >= 0.5);
-    (fits && whole).then(|| counts.floor() as i64 + up)
+    (fits && whole).then(|| counts.round() as i64)
 }
 
 #[test]
@@ -100,9 +95,10 @@ fn panel_values() {
     assert_eq!([-1e-45, -0.0, 600.0].map(|x| fflv.count(x)), [Err(Refusal::Value), Ok(0), Ok(most::FFLV)]);
     assert_eq!(magnitude(PARTS, most::CGAI).count(64.0), Ok(1 << 34));
     assert_eq!(magnitude(PARTS, most::CGAI).count(64_f32.next_up()), Err(Refusal::Value));
-    // Halves upwards, of a part.
+    // Halves of a part, away from zero.
     let half = 2_f32.powi(-29);
-    assert_eq!([half, -half, 3.0 * half].map(|x| ctg.count(x).unwrap()), [1, 0, 2]);
+    let halves = [half, -half, 3.0 * half, -3.0 * half, (-half).next_up()];
+    assert_eq!(halves.map(|x| ctg.count(x).unwrap()), [1, -1, 2, -2, 0]);
     // A gain of 35 bits goes out with one rounding, ties to even.
     let gains = [1 << 34, (1 << 34) - 1, (1 << 25) + 1, (1 << 25) + 3, -1].map(|n| scaled(n, PARTS).to_bits());
     assert_eq!(gains, [0x4280_0000, 0x4280_0000, 0x3e00_0000, 0x3e00_0001, 0xb180_0000]);

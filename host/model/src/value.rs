@@ -24,7 +24,7 @@ pub const fn magnitude(scale: u32, most: i64) -> Range {
 }
 
 impl Range {
-    /// A float in counts, halves upwards. "Not finite, or before rounding beyond its range", or with a scale of whole
+    /// A float in counts, halves away from zero. "Not finite, or before rounding beyond its range", or with a scale of whole
     /// numbers not whole, is refused; all in whole numbers, so that a subnormal is never taken as 0.
     #[inline(always)] // much of it is constant where the range is
     pub fn count(&self, value: f32) -> Result<i64> {
@@ -45,7 +45,8 @@ impl Range {
     /// The whole number next to signed / 2^places, if that is fit.
     fn within(&self, signed: i64, places: i32) -> Result<i64> {
         let fits = self.least << places <= signed && signed <= self.most << places;
-        let rounded = (signed + ((1 << places) >> 1)) >> places;
+        let magnitude = (signed.abs() + ((1 << places) >> 1)) >> places;
+        let rounded = magnitude * signed.signum();
         if fits && (self.scale != WHOLE || rounded << places == signed) {
             Ok(rounded)
         } else {
