@@ -56,12 +56,13 @@ impl Rng {
         }
     }
 
-    /// n strictly rising numbers within +-most.
+    /// n strictly rising numbers within +-most; gaps of eights, where halves come in, or any.
     fn rising(&mut self, n: usize, most: i64) -> Vec<i64> {
         let gap = self.pick(&[1, 4, 1_000, most / 64, most / n as i64]);
+        let unit = if self.one_in(2) { 8.min(gap) } else { 1 };
         let mut xs = vec![self.near(most)];
         while xs.len() < n {
-            xs.push(xs[xs.len() - 1] + self.range(1, gap));
+            xs.push(xs[xs.len() - 1] + unit * self.range(1, gap / unit));
         }
         let over = (xs[n - 1] - most).max(0);
         xs.iter().map(|x| x - over).collect()
@@ -79,11 +80,12 @@ impl Rng {
         }
     }
 
-    /// A gain: halves, which make ties, or anything up to the most.
+    /// A gain: halves, which make ties, small ones too, which few limits cut off; or anything up to the most.
     fn gain(&mut self, most: i64) -> i64 {
-        match self.below(4) {
+        match self.below(5) {
             0 => self.near(most),
             1 => self.range(-16, 16) << 27,
+            2 => self.pick(&[-3, -1, 1, 3]) << self.range(25, 27),
             _ => self.range(-most, most) >> self.below(8),
         }
     }
@@ -103,16 +105,22 @@ pub fn figures(rng: &mut Rng) -> Figures {
             f.temperature[i].cto = rng.near(most::CTO);
             f.temperature[i].ctg = if rng.one_in(2) { rng.near(most::CTG) } else { rng.range(-1, 1) << 24 };
         }
-        for (i, clx) in rng.rising(f.cln.into(), most::CELL).into_iter().enumerate() {
+        let points = rng.rising(f.cln.into(), most::CELL);
+        // Anywhere, or about 0, where most readings are.
+        let middle = if rng.one_in(2) { (points[0] + points[points.len() - 1]) / 2 } else { 0 };
+        for (i, clx) in points.into_iter().map(|clx| clx - middle).enumerate() {
             f.linearity[i].clx = clx;
             f.linearity[i].clk = if i == 0 {
                 rng.near(most::CLK)
             } else {
                 let before = f.linearity[i - 1];
-                (before.clk + rng.near((clx - before.clx) / 4)).clamp(-most::CLK, most::CLK)
+                let most = (clx - before.clx) / 4;
+                // A slope of a quarter or an eighth has a half every four or eight steps.
+                let by = if rng.one_in(2) { rng.pick(&[most, -most, most / 2, -most / 2]) } else { rng.near(most) };
+                (before.clk + by).clamp(-most::CLK, most::CLK)
             };
         }
-        f.sofs = rng.near(most::SYSTEM) >> rng.pick(&[0, 0, 6]);
+        f.sofs = rng.near(most::SYSTEM) >> rng.pick(&[0, 6, 12]);
         f.sgai = rng.gain(most::SGAI);
         (f.smin, f.smax) = rng.limits(most::SYSTEM);
         f.sz = rng.near(most::SYSTEM);
@@ -281,25 +289,36 @@ fn make(rng: &mut Rng) -> Call {
     Call::Make(bytes, if rng.one_in(6) { rng.pick(&[0, 1, 247, 248, 255]) } else { rng.range(1, 247) as u8 })
 }
 
+/// Two neighbouring points of a table.
+fn segment<P: Copy>(rng: &mut Rng, points: &[P], count: u8) -> [P; 2] {
+    let at = rng.below(u64::from(count.max(2)) - 1) as usize;
+    [points[at], points[at + 1]]
+}
+
 /// A reading for a device, aimed at its edges.
-fn sample(rng: &mut Rng, d: &Device) -> Sample {
+pub fn sample(rng: &mut Rng, d: &Device) -> Sample {
     let f = &d.figures;
     let by_gain =
         |value: i64, gain: i64| if gain == 0 { 0 } else { ((value as i128 * (1 << 28)) / gain as i128) as i64 };
     let any_temp = rng.near(13_107_200);
     let point = f.temperature[rng.below(u64::from(f.ctn.max(1))) as usize];
-    let temp = match rng.below(6) {
+    let [from, to] = segment(rng, &f.temperature, f.ctn).map(|p| p.ct);
+    let temp = match rng.below(8) {
         0 => rng.pick(&[-3_276_800, 5_898_240]) + rng.range(-1, 1),
         1 => point.ct + rng.range(-2, 2),
         2 => f.temperature[0].ct + rng.below((f.temperature[1].ct - f.temperature[0].ct) as u64 + 1) as i64,
         3 if rng.one_in(10) => rng.pick(&[-13_107_201, 13_107_201, i64::MIN, i64::MAX]),
+        // the middle of a segment: o and g are a half there wherever the change is odd
+        4 | 5 => (from + to) >> 1,
         _ => any_temp,
     };
-    let limit = f.linearity[rng.below(u64::from(f.cln.max(1))) as usize].clx;
-    let cell = match rng.below(3) {
+    let [from, to] = segment(rng, &f.linearity, f.cln).map(|p| p.clx);
+    let cell = match rng.below(5) {
         0 => rng.pick(&[f.cmin, f.cmax]),
         1 => f.sofs + by_gain(rng.pick(&[f.smin, f.smax]), f.sgai),
-        _ => limit,
+        2 => rng.pick(&[from, to]),
+        3 => (from + to) >> 1,
+        _ => rng.range(from, to),
     };
     let aimed = (f.cofs + point.cto + by_gain(cell, f.cgai)).saturating_add(rng.range(-3, 3));
     let elec = match (rng.below(8), &d.last) {

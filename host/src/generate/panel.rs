@@ -39,7 +39,7 @@ pub fn bits_about(rng: &mut Rng, range: Range) -> u32 {
         1 => scaled(rng.pick(&[least, most]), scale).to_bits(),
         2 => scaled(rng.pick(&[least, most]) + rng.range(-1, 1), scale).to_bits(),
         3 => scaled(rng.range(-3, 3), scale).to_bits(),
-        4 => scaled(2 * (rng.range(least, most) >> rng.below(24)) + 1, scale + 1).to_bits(),
+        4 | 5 => scaled(2 * (rng.range(least, most) >> rng.below(36)) + 1, scale + 1).to_bits(),
         _ => scaled(rng.range(least, most), scale).to_bits(),
     };
     bits.wrapping_add(rng.pick(&[0, 0, 0, 0, 1, u32::MAX])) ^ rng.pick(&[0, 0, 0, 0x8000_0000])
