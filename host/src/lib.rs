@@ -7,6 +7,7 @@
 pub mod archive;
 pub mod generate;
 pub mod line;
+pub mod mirror;
 #[cfg(feature = "archive")]
 #[allow(unsafe_code)] // calls of the C library
 pub mod pty;

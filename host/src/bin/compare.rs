@@ -1,4 +1,5 @@
-//! compare CALLS SEED: the same generated calls on the model and on the archive, with four devices each.
+//! compare CALLS SEED: the same generated calls on the model and on the archive, with four devices each; then, on the
+//! archive, devices that are pulled beside those that are pushed.
 //!
 //! Compared: numbers, lengths, every byte of and around the lent buffer, report bits, weights, the whole
 //! record in steps, the waiting copy too, of each device that the call was on, a read of each register of
@@ -6,6 +7,7 @@
 //! platform all four (a refused making leaves zeros).
 
 use host::generate::{Call, Calls};
+use host::mirror::{self, Mirrored};
 use host::tool::{run, Failure};
 use host::{panel_registers, read_frame, Converter, Other, APPLY, REGISTERS, WITH_ARCHIVE};
 use model::{Figures, Refusal, Sample, Weights};
@@ -98,8 +100,28 @@ fn arguments(words: &[String]) -> Option<(u64, u64)> {
 fn main() -> ExitCode {
     run("compare CALLS SEED", |words| {
         let (calls, seed) = arguments(words).ok_or(Failure::Usage)?;
-        Ok(compare(calls, seed))
+        let (same, mirrored) = (compare(calls, seed), pull(calls, seed));
+        Ok(same && mirrored)
     })
+}
+
+/// Calls for each pair of a device that is pushed and one that is pulled.
+const CALLS_A_PAIR: u64 = 100;
+
+/// Whether pulled devices read as pushed ones.
+fn pull(calls: u64, seed: u64) -> bool {
+    let subject = if WITH_ARCHIVE { "archive" } else { "model (no archive linked)" };
+    match mirror::run::<Other>(calls.div_ceil(CALLS_A_PAIR), seed) {
+        Ok(Mirrored { pairs, readings, apart }) => {
+            println!("{subject}, pushed and pulled: {pairs} pairs of devices, {readings} readings of both");
+            println!("  CRAW the negative in all, CELL one step apart in {apart}, the negative in all others");
+            true
+        }
+        Err(what) => {
+            println!("DIFFERENCE between pushed and pulled ({subject}): {what}");
+            false
+        }
+    }
 }
 
 /// How many registers of Change 1 are read after a call, in turn; all of 01's are.
