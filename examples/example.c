@@ -1,7 +1,7 @@
 /* Make a device of the default sheet, take readings, and answer frames: what a board does all day; then load bad sheets
  * while it runs, which disturbs nothing; then calibrate it from the panel; then fill it slowly with the filter on; then
- * weigh a lorry on a platform of four. In one report the four values differ, and in one weighing all eight, so that a
- * header with their order changed does not pass. */
+ * weigh a lorry on a platform of four; then push and pull a cell. In one report the four values differ, and in one
+ * weighing all eight, so that a header with their order changed does not pass. */
 #include "converter.h"
 #include <inttypes.h>
 #include <stdio.h>
@@ -205,6 +205,18 @@ static void weigh_lorry(const uint8_t *sheet, size_t length)
     }
 }
 
+/* Change 5 of paper 02. A test rig pushes and pulls a cell with the same load, here 40 % and a step. CGAI 1/2 makes
+ * half a step of it, which goes away from zero on both sides: the two values differ in their sign alone. */
+static void push_and_pull(converter_device *device)
+{
+    static const int64_t load[] = {2621441, -2621441};
+    for (size_t i = 0; i < sizeof load / sizeof *load; i++) {
+        converter_reading(device, load[i], 1310720, 0);
+        printf("%s by %" PRId64 " steps: SYS %.1f steps\n", load[i] > 0 ? "push" : "pull", load[i],
+               65536 * converter_report(device).report.sys);
+    }
+}
+
 int main(void)
 {
     static converter_device device;
@@ -253,5 +265,10 @@ int main(void)
     fill_slowly(&device);
 
     weigh_lorry(sheet, length);
+
+    /* CGAI 1/2. */
+    put_figure(sheet, 9, 268435456 / 2);
+    printf("good sheet: %u\n", load(&device, sheet, length, 52));
+    push_and_pull(&device);
     return 0;
 }

@@ -1,5 +1,6 @@
 /* The converter of a load cell: readings, calibration sheet and Modbus RTU (paper 01), with calibration over the bus,
- * a filter level between samples and the four corners of a platform (paper 02, Changes 1, 2 and 4), proved in Rattle.
+ * a filter level between samples, the four corners of a platform and halves of a step rounded away from zero, so that a
+ * cell is pulled as it is pushed (paper 02, Changes 1, 2, 4 and 5), proved in Rattle.
  *
  * Link the archive libboard.a (`rt staticlib board`, x86-64). There is no heap and no global state: everything that a
  * device is stands in one record that the caller keeps, for as long as it likes and where it likes. A call runs to its
@@ -37,7 +38,7 @@ extern "C" {
 
 /* Another MAJOR: code that was compiled with the older header must not be linked with this archive. */
 #define CONVERTER_VERSION_MAJOR 3
-#define CONVERTER_VERSION_MINOR 1
+#define CONVERTER_VERSION_MINOR 2
 #define CONVERTER_VERSION_PATCH 0
 
 /* Numbers of refusal; 0 is an accepted call. */
