@@ -12,13 +12,32 @@ pub enum Profile {
     Fill,
     /// 100 % at 20 degrees.
     Still,
-    /// A lorry that drives on a platform, stands, and drives off, in 60 s, in the same air.
+    /// A test rig that pushes a cell, and then pulls it by the same loads, in 60 s, at 20 degrees.
+    Rig,
+    /// A lorry that drives on a platform, stands, and drives off, in 60 s, in the air of the hopper.
     Lorry,
 }
 
 /// Hopper: tenths of a second, and percent there; straight lines between.
 const HOPPER: [(i64, i64); 9] =
     [(0, 0), (50, 0), (300, 100), (310, 100), (312, 155), (314, 100), (400, 100), (550, 0), (600, 0)];
+/// Rig: the same. It stands at 50 and 100 %, unloads, and 30 s later does the same the other way.
+const RIG: [(i64, i64); 14] = [
+    (0, 0),
+    (50, 0),
+    (80, 50),
+    (130, 50),
+    (160, 100),
+    (210, 100),
+    (270, 0),
+    (350, 0),
+    (380, -50),
+    (430, -50),
+    (460, -100),
+    (510, -100),
+    (570, 0),
+    (600, 0),
+];
 /// Lorry: the same at corners 1 to 4. Its front axle loads 1 and 2, its rear 3 and 4; the left, 1 and 3, a little more.
 const LORRY: [[(i64, i64); 6]; 4] = [
     [(0, 0), (50, 0), (80, 30), (400, 30), (430, 0), (600, 0)],
@@ -26,6 +45,8 @@ const LORRY: [[(i64, i64); 6]; 4] = [
     [(0, 0), (100, 0), (140, 60), (440, 60), (480, 0), (600, 0)],
     [(0, 0), (100, 0), (140, 57), (440, 57), (480, 0), (600, 0)],
 ];
+/// 20 degrees.
+const ROOM: i64 = 20 * STEPS;
 /// Air: tenths of a second, and degrees there.
 const AIR: [(i64, i64); 3] = [(0, 18), (3_000, 24), (6_000, 18)];
 
@@ -34,6 +55,7 @@ impl Profile {
         match name {
             "fill" => Some(Profile::Fill),
             "still" => Some(Profile::Still),
+            "rig" => Some(Profile::Rig),
             "lorry" => Some(Profile::Lorry),
             _ => None,
         }
@@ -48,7 +70,8 @@ impl Profile {
     pub fn readings(self, tick: u64) -> [Sample; 4] {
         match self {
             Profile::Fill => [(along(&HOPPER, tick), along(&AIR, tick), 0); 4],
-            Profile::Still => [(100 * STEPS, 20 * STEPS, 0); 4],
+            Profile::Still => [(100 * STEPS, ROOM, 0); 4],
+            Profile::Rig => [(along(&RIG, tick), ROOM, 0); 4],
             Profile::Lorry => LORRY.map(|corner| (along(&corner, tick), along(&AIR, tick), 0)),
         }
     }
@@ -109,7 +132,7 @@ impl Lines {
 mod tests {
     use super::*;
     use crate::generate::sheet;
-    use model::{Device, Figures};
+    use model::{Device, Figures, Reading};
 
     #[test]
     fn profiles_stay_within_what_a_reading_takes() {
@@ -136,6 +159,26 @@ mod tests {
             assert_eq!([one, two, three, four].map(|(_, temp, _)| temp), [Profile::Fill.reading(tick).1; 4]);
         }
         assert_eq!(Profile::Still.readings(7), [Profile::Still.reading(0); 4]);
+    }
+
+    #[test]
+    fn a_rig_pulls_as_it_pushes() {
+        let percent = |tick| Profile::Rig.reading(tick).0 / STEPS;
+        assert_eq!([0, 80, 130, 160, 210, 270, 300].map(percent), [0, 50, 50, 100, 100, 0, 0]);
+        assert_eq!([350, 380, 430, 460, 510, 570, 600].map(percent), [0, -50, -50, -100, -100, 0, 0]);
+        // Gains of odd quarters, and a filter that smooths all but the first reading: many halves.
+        let figures = Figures { cgai: 3 << 26, sgai: 5 << 26, fflv: 4 * STEPS, ffst: 10, ..Figures::standard() };
+        let mut rig = [Device::new(&sheet(&figures), 1).expect("a device"); 2];
+        for tick in 0..300 {
+            let ((elec, temp, integrity), pulled) = (Profile::Rig.reading(tick), Profile::Rig.reading(tick + 300));
+            assert_eq!(pulled, (-elec, temp, integrity), "{tick}");
+            rig[0].take(elec, temp, integrity).expect("taken");
+            rig[1].take(pulled.0, temp, integrity).expect("taken");
+            let [pushed, pulled] = rig.map(|device| device.last.expect("a reading"));
+            let values = |r: Reading| [r.elec, r.craw, r.cell, r.sraw, r.sys];
+            assert_eq!(values(pushed), values(pulled).map(|value| -value), "{tick}");
+            assert_eq!((pushed.peak, pushed.trof), (-pulled.trof, -pulled.peak));
+        }
     }
 
     /// FFLV 2 %, FFST 10: the filling, 0.4 % a reading, is smoothed 3.6 % behind, and only the knock jumps.

@@ -341,6 +341,17 @@ fn a_lorry_drives_on() {
     assert_eq!(said[51], "weigh: 0, total 126702 left 65536 right 61166 difference 4370");
 }
 
+/// The rig begins to push after 5 s; what it pulls, 30 s later, is `readings`' to test.
+#[test]
+fn a_rig_begins_to_push() {
+    let mut bus = Bus::with(&["52", "--profile", "rig", "--platform", "--verbose"]);
+    let lines = BufReader::new(bus.simulator.stderr.take().expect("standard error")).lines();
+    let said: Vec<String> = lines.map(|line| line.expect("text")).take(52).collect();
+    assert_eq!(said[..51], ["weigh: 0, total 0 left 0 right 0 difference 0"; 51]);
+    // A thirtieth of 50 % at each.
+    assert_eq!(said[51], "weigh: 0, total 436904 left 218452 right 218452 difference 0");
+}
+
 fn ended(arguments: &[&str]) -> (Option<i32>, String) {
     let Output { status, stdout, stderr } = command(arguments).output().expect("it runs");
     assert!(stdout.is_empty());

@@ -16,7 +16,7 @@ use std::os::fd::AsFd;
 use std::process::ExitCode;
 
 const USAGE: &str = "\
-converter-sim SHEET STATION [--platform] [--profile fill|still|lorry | --readings -] [--baud N] [--verbose]
+converter-sim SHEET STATION [--platform] [--profile fill|still|rig|lorry | --readings -] [--baud N] [--verbose]
 
 Serves Modbus RTU on a pseudo-terminal, whose name it prints.
   SHEET              a file of sheet bytes, or the word default: 001's default sheet
@@ -24,6 +24,7 @@ Serves Modbus RTU on a pseudo-terminal, whose name it prints.
   --platform         four devices of the sheet, for corners 1 to 4 of a platform, at STATION to STATION + 3
   --profile fill     a hopper that fills and empties in 60 s, 10 readings a second (the default)
   --profile still    100 % at 20 degrees, 10 readings a second
+  --profile rig      a test rig that pushes the cell to 100 %, then pulls it so, in 60 s, 10 readings a second
   --profile lorry    with --platform, and its default: a lorry drives on and off in 60 s, 10 calls a second
   --readings -       readings from standard input, a line each: ELEC TEMP INTEGRITY, in steps of 1/65536;
                      with --platform a line has those of corners 1 to 4, 12 numbers
