@@ -61,6 +61,16 @@ fn apart(f: &Figures, pushed: &Reading, pulled: &Reading) -> Result<bool, &'stat
     }
 }
 
+/// Whether PEAK and TROF are each other's negatives, and the floats of a report the negatives too.
+fn reports_opposite<C: Converter>(pushed: &mut C, pulled: &mut C) -> bool {
+    let extremes = |device: &C| device.state().last.map(|r| (r.peak, r.trof));
+    let (number, floats) = pushed.report();
+    let (other, [sys, peak, trof, cell]) = pulled.report();
+    let negatives = [sys, trof, peak, cell].map(|bits| -f32::from_bits(bits));
+    extremes(pushed) == extremes(pulled).map(|(peak, trof)| (-trof, -peak))
+        && (number, floats.map(f32::from_bits)) == (other, negatives)
+}
+
 /// What was compared.
 #[derive(Debug, Default, PartialEq)]
 pub struct Mirrored {
@@ -92,6 +102,7 @@ fn pair<C: Converter>(rng: &mut Rng, seen: &mut Mirrored) -> Result<(), String> 
         return Err(format!("made with {made:?}: {f:?}"));
     }
     seen.pairs += 1;
+    let mut exact = true;
     for _ in 0..RUN {
         let (elec, temp, integrity) = sample(rng, &pushed.state());
         let mut numbers =
@@ -112,6 +123,10 @@ fn pair<C: Converter>(rng: &mut Rng, seen: &mut Mirrored) -> Result<(), String> 
             _ => Err("whether there is a reading"),
         };
         let apart = found.map_err(|what| format!("{what} differs, {numbers:?}: {states:?}"))?;
+        exact &= !apart;
+        if exact && !reports_opposite(&mut pushed, &mut pulled) {
+            return Err(format!("PEAK, TROF or a report differs: {states:?}"));
+        }
         seen.readings += u64::from(accepted);
         seen.apart += u64::from(accepted && apart);
     }
@@ -170,6 +185,13 @@ mod tests {
                 assert_eq!(apart(&f, &pushed, &slipped), Err(name), "{elec}");
             }
         }
+        let device = |elec| {
+            let mut device = Device::new(&sheet(&Figures::standard()), 1).expect("a device");
+            device.take(elec, 0, 0).expect("taken");
+            device
+        };
+        let pulled = [-3, -4, 3].map(|elec| reports_opposite(&mut device(3), &mut device(elec)));
+        assert_eq!(pulled, [true, false, false]);
         let over = taken(&f, 10_000_000);
         assert_eq!((over.stat, turned(over.stat), turned(4 | 8 | 2_048)), (672, 336, 4 | 8 | 2_048));
     }
