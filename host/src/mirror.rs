@@ -156,6 +156,9 @@ mod tests {
         assert!(seen.pairs == 20_000 && seen.readings > 200_000 && seen.apart > 1_000, "{seen:?}");
     }
 
+    /// What goes wrong in a reading, and the name that is told.
+    type Slip = (fn(&mut Reading), &'static str);
+
     /// A quarter of a step more for each step from 0 to 4: half-way at 2, and nowhere else.
     #[test]
     fn what_is_not_mirrored_is_seen() {
@@ -171,7 +174,7 @@ mod tests {
         for elec in [2, 3] {
             let (pushed, pulled) = (taken(&f, elec), taken(&mirrored(&f), -elec));
             assert_eq!(apart(&f, &pushed, &pulled), Ok(elec == 2));
-            let wrong: [(fn(&mut Reading), &str); 6] = [
+            let wrong: [Slip; 6] = [
                 (|r| r.elec += 1, "ELEC"),
                 (|r| r.craw += 1, "CRAW"),
                 (|r| r.cell += 1, "CELL"),
