@@ -13,7 +13,7 @@ use lib.Signed.{ltZ, _≤ℤ_, _<ℤ_}
 use Rattle.integers.specs.Within.{_within_}
 use Rattle.integers.proofs.Parts.{ints}
 use Rattle.integers.proofs.Difference.{⟨_⟩, lt! }
-use Rattle.integers.proofs.Order.{neg-le, neg-lt, pick, lt-yes, lt-no, yes-lt, no-lt, <-≤}
+use Rattle.integers.proofs.Order.{neg-le, neg-lt, lt-neg, pick, lt-yes, lt-no, yes-lt, no-lt, <-≤}
 use Rattle.integers.proofs.Magnitude.{abs-mul, abs-neg, abs-sum3}
 use Rattle.integers.proofs.Ring.{ring, polynomials}
 use Rattle.arithmetic.specs.Round.{roundDiv}
@@ -33,8 +33,10 @@ use Rattle.figures.specs.declared.Filter.{Filter}
 use Rattle.compensation.specs.Hold.{hold, holdF}
 use Rattle.compensation.specs.Filter.{Remembered, isZero, filtered, heldBy}
 use Rattle.compensation.specs.Reading.{one, scaled, o, g, y, rawCell, craw, cell, rawSystem, sraw, sys}
-use Rattle.compensation.specs.Pulling.{pulledMemory, Exactly, Pulls, Pulling}
+use Rattle.compensation.specs.Pulling.{pulledMemory, ChangeSides, Exactly, Pulls, Pulling}
+use Rattle.compensation.specs.Stat.{weigh, stat}
 use Rattle.compensation.proofs.Held.{near-hold}
+use Rattle.compensation.proofs.Flags.{stat-bits}
 use Rattle.compensation.proofs.Magnitudes.{one-above}
 
 -- ---- each step, of the negative
@@ -148,6 +150,10 @@ scaled-opposed u v gain h l =
 both-less : (u v s : ℤ) → (u -ℤ negℤ s) +ℤ (v -ℤ s) ≡ u +ℤ v
 both-less u v s = ring (u ∷ v ∷ s ∷ []) (search polynomials depth 20 fits 9000) refl
 
+-- a test of two negatives goes the other way
+turned : (y z : ℤ) {x u : ℤ} → x ≡ negℤ y → u ≡ negℤ z → weigh (ltZ x u) 1 ≡ weigh (ltZ z y) 1
+turned y z a b = ap₂ (λ (s t : ℤ). weigh (ltZ s t) 1) a b ∙ ap (λ (t : Bool). weigh t 1) (lt-neg y z)
+
 -- ---- a reading
 
 module _ (c m : Calibration) (elec temp : ℤ) (ok : Acceptable c) (k : Mirrors c m) where
@@ -167,6 +173,20 @@ module _ (c m : Calibration) (elec temp : ℤ) (ok : Acceptable c) (k : Mirrors 
   raw-odd : rawCell m (negℤ elec) temp ≡ negℤ (rawCell c elec temp)
   unfolding rawCell
   raw-odd = rw (y-odd, g-same) (scaled-odd (y c elec temp) (one +ℤ g c elec temp))
+
+  flags-odd : (i : ℕ) → ChangeSides (stat c elec temp i) (stat m (negℤ elec) temp i)
+  flags-odd i =
+      let p = stat-bits c elec temp i in
+      let q = stat-bits m (negℤ elec) temp i in
+      record {
+        ecomur-is = q .ecomur-is ∙ turned elec (pos 7864320) refl refl ∙ sym (p .ecomor-is);
+        ecomor-is = q .ecomor-is ∙ turned (negℤ (pos 7864320)) elec refl refl ∙ sym (p .ecomur-is);
+        crawur-is = q .crawur-is ∙ turned (rawCell c elec temp) (c .cell .cmax) raw-odd (k .cmin) ∙ sym (p .crawor-is);
+        crawor-is = q .crawor-is ∙ turned (c .cell .cmin) (rawCell c elec temp) (k .cmax) raw-odd ∙ sym (p .crawur-is);
+        tempur-is = q .tempur-is ∙ sym (p .tempur-is);
+        tempor-is = q .tempor-is ∙ sym (p .tempor-is);
+        lcinteg-is = q .lcinteg-is ∙ sym (p .lcinteg-is);
+      }
 
   craw-odd : craw m (negℤ elec) temp ≡ negℤ (craw c elec temp)
   unfolding craw
@@ -207,7 +227,13 @@ module _ (c m : Calibration) (elec temp : ℤ) (ok : Acceptable c) (k : Mirrors 
 
     exactly : Exactly c m elec temp
     unfolding sys
-    exactly = record { cell-is = e; sraw-is = sraw-odd; sys-is = rw (sraw-odd, k .sz) (sym (negℤ-+ℤ (sraw c elec temp) (negℤ (c .system .sz)))) }
+    exactly = record {
+      cell-is = e;
+      sraw-is = sraw-odd;
+      sys-is = rw (sraw-odd, k .sz) (sym (negℤ-+ℤ (sraw c elec temp) (negℤ (c .system .sz))));
+      sysur-is = λ i. stat-bits m (negℤ elec) temp i .sysur-is ∙ turned (rawSystem c elec temp) (c .system .smax) raw-system-odd (k .smin) ∙ sym (stat-bits c elec temp i .sysor-is);
+      sysor-is = λ i. stat-bits m (negℤ elec) temp i .sysor-is ∙ turned (c .system .smin) (rawSystem c elec temp) (k .smax) raw-system-odd ∙ sym (stat-bits c elec temp i .sysur-is);
+    }
 
   raw-system-opposed : (rawSystem m (negℤ elec) temp +ℤ rawSystem c elec temp) within 8
   unfolding rawSystem
@@ -234,7 +260,7 @@ module _ (c m : Calibration) (elec temp : ℤ) (ok : Acceptable c) (k : Mirrors 
 
   pulls : Pulls c m elec temp
   pulls = record {
-    raw-is = raw-odd;
+    flags = flags-odd;
     craw-is = craw-odd;
     beside = λ b. exactly (cell-odd (mirrored-beside 1 X table (ok .linearity-ok .rising) b));
     no-half = λ n. exactly (cell-odd (mirrored-exact 1 X table (ok .linearity-ok .rising) n));

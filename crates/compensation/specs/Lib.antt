@@ -3,10 +3,10 @@ pub mod Hold
 pub mod Filter
 pub mod Filtered
 pub mod Reading
-pub mod Pulling
 pub mod Exact
 pub mod Stat
 pub mod Values
+pub mod Pulling
 pub mod Faithful
 pub mod Distances
 pub mod ForCode

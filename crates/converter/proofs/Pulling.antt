@@ -2,18 +2,18 @@
 use mathlib.Core.Path.{_≡_, refl, sym, _∙_, ap, ap₂, subst}
 use mathlib.Core.Bool.{Bool, true, false, cond, _||_}
 use mathlib.Core.List.{List, [], _∷_, map}
-use mathlib.Core.Logic.{⊎-elim}
 use mathlib.Core.Option.{Option, none, some}
-use Prim.Native.Nat.{ℕ, _≤_}
+use Prim.Native.Nat.{ℕ, max}
 use native.Mathlib.Omega.{arith}
+use lib.Bits.{bitOr}
 use lib.Dec.{ltb}
-use lib.IntN.{ℤ, pos, negsuc, negℤ, negℤ-negℤ, natAbs, _+ℤ_, +ℤ-comm, +ℤ-invl}
-use lib.Signed.{ltZ, _≤ℤ_, _<ℤ_}
+use lib.IntN.{ℤ, pos, negℤ, _+ℤ_, +ℤ-comm, +ℤ-invl}
+use lib.Signed.{ltZ}
 use Rattle.integers.specs.Within.{_within_}
 use Rattle.integers.proofs.Parts.{ints}
 use Rattle.integers.proofs.Difference.{⟨_⟩, _⊕_, le! }
-use Rattle.integers.proofs.Order.{pick, lt-yes, lt-no, yes-lt, no-lt, neg-le, neg-lt, <-≤, ≤-or->}
-use Rattle.integers.proofs.Magnitude.{within-neg, within-between}
+use Rattle.integers.proofs.Order.{pick, lt-yes, lt-no, lt-neg}
+use Rattle.integers.proofs.Magnitude.{within-between}
 use Rattle.arithmetic.specs.Keeps.{ColumnWithin}
 use Rattle.arithmetic.proofs.Mirror.{none-no-half}
 use Rattle.figures.specs.Rows.{linearities}
@@ -27,25 +27,24 @@ use Rattle.sheet.specs.Write.{sheetBytes}
 use Rattle.sheet.specs.declared.Sheet.{Sheet}
 use Rattle.sheet.proofs.Theorems.{written-read, read-accepted}
 use Rattle.compensation.specs.ReadingLimits.{elecMost, tempMost}
-use Rattle.compensation.specs.Filter.{Remembered, heldBy, remembered}
+use Rattle.compensation.specs.Filter.{Remembered, heldBy}
 use Rattle.compensation.specs.Reading.{craw, cell, sraw, sys}
 use Rattle.compensation.specs.Values.{valuesOf}
-use Rattle.compensation.specs.Pulling.{pulledMemory, Exactly, Pulls}
+use Rattle.compensation.specs.Pulling.{pulledMemory, ChangeSides, Exactly, Pulls}
+use Rattle.compensation.specs.Stat.{bitAt, tempur, tempor, ecomur, ecomor, crawur, crawor, lcinteg}
+use Rattle.compensation.proofs.Flags.{bit-or}
 use Rattle.compensation.proofs.Pulling.{pulling}
 use Rattle.state.specs.Reading.{badReading, outside, beyond, larger, smaller, peakAfter, trofAfter, readingsAfter, rememberedOf, stateAfterValues, stateAfterReading}
 use Rattle.state.specs.Request.{fresh}
-use Rattle.state.specs.declared.Readings.{Readings}
+use Rattle.state.specs.declared.State.{State}
 use Rattle.converter.specs.Making.{stationFits, setupOf, started, made}
-use Rattle.converter.specs.Call.{Call, reading, number, run, afterCall, afterReading}
+use Rattle.converter.specs.Call.{reading, number, run, afterCall, afterReading}
 use Rattle.converter.specs.declared.Device.{Device}
 use Rattle.converter.specs.declared.corner.Sample.{Sample}
-use Rattle.converter.specs.Pulling.{push, pull, Opposite, Pair, Mirror, shows, BothWays}
+use Rattle.converter.specs.Pulling.{push, pull, Opposite, Pair, Mirror, stateOf, BothWays}
 use Rattle.converter.proofs.Made.{making-accepted, making-sound}
 
 -- ---- what turns a reading down is the same both ways
-
-lt-neg : (a b : ℤ) → ltZ (negℤ a) (negℤ b) ≡ ltZ b a
-lt-neg a b = ⊎-elim (λ l. no-lt (neg-le l) ∙ sym (no-lt l)) (λ l. yes-lt (neg-lt l) ∙ sym (yes-lt l)) (≤-or-> a b)
 
 bad-odd : (elec temp : ℤ) (integrity : ℕ) → badReading (negℤ elec) temp integrity ≡ badReading elec temp integrity
 unfolding badReading outside
@@ -80,6 +79,22 @@ trof-opposed {n} b a u x v h k = turned (cond b (larger x v) v) (cond b (smaller
     turned : (x y : ℤ) → (x +ℤ y) within n → (y +ℤ x) within n
     turned x y f = subst (λ (z : ℤ). z within n) (+ℤ-comm x y) f
 
+-- ---- FLAG keeps what each STAT raised
+
+latched : {a b x y : ℕ} → ChangeSides a b → ChangeSides x y → ChangeSides (bitOr a x) (bitOr b y)
+latched {a} {b} {x} {y} h k = record {
+  ecomur-is = both ecomur ecomor (h .ecomur-is) (k .ecomur-is);
+  ecomor-is = both ecomor ecomur (h .ecomor-is) (k .ecomor-is);
+  crawur-is = both crawur crawor (h .crawur-is) (k .crawur-is);
+  crawor-is = both crawor crawur (h .crawor-is) (k .crawor-is);
+  tempur-is = both tempur tempur (h .tempur-is) (k .tempur-is);
+  tempor-is = both tempor tempor (h .tempor-is) (k .tempor-is);
+  lcinteg-is = both lcinteg lcinteg (h .lcinteg-is) (k .lcinteg-is);
+}
+  where
+    both : (i j : ℕ) → bitAt i b ≡ bitAt j a → bitAt i y ≡ bitAt j x → bitAt i (bitOr b y) ≡ bitAt j (bitOr a x)
+    both i j f g = bit-or i b y ∙ ap₂ max f g ∙ sym (bit-or j a x)
+
 -- ---- a reading
 
 -- what CELL, SRAW and SYS keep at every ELEC and TEMP
@@ -89,49 +104,50 @@ pub record Keeps (step steps : ℕ) (c m : Calibration) : Type 0 where
   pub syss : (elec temp : ℤ) → (sys m (negℤ elec) temp +ℤ sys c elec temp) within steps
 
 module _ {step steps : ℕ} {c m : Calibration} (ok : Acceptable c) (k : Mirrors c m) (near : Keeps step steps c m) where
-  remembers : {p q : Readings} → Opposite step steps p q → rememberedOf q ≡ pulledMemory (rememberedOf p)
-  remembers {p} {q} h = rw (h .any-is, h .input-is, h .elec-is) (picked (p .any))
+  remembers : {p q : State} → Opposite step steps p q → rememberedOf (q .readings) ≡ pulledMemory (rememberedOf (p .readings))
+  remembers {p} {q} h = rw (h .any-is, h .input-is, h .elec-is) (picked (p .readings .any))
     where
-      picked : (b : Bool) → cond b (some (record { input = negℤ (p .input); held = negℤ (p .elec) })) none ≡ pulledMemory (cond b (some (record { input = p .input; held = p .elec })) none)
+      picked : (b : Bool) → cond b (some (record { input = negℤ (p .readings .input); held = negℤ (p .readings .elec) })) none
+          ≡ pulledMemory (cond b (some (record { input = p .readings .input; held = p .readings .elec })) none)
       picked true = refl
       picked false = refl
 
-  read : {p q : Readings} (elec temp : ℤ) (integrity : ℕ) → Opposite step steps p q
-      → let r = remembered (c .filter) (rememberedOf p) elec in
-      let s = remembered (m .filter) (rememberedOf q) (negℤ elec) in
-      Opposite step steps (readingsAfter p r temp (valuesOf c (r .held) temp integrity)) (readingsAfter q s temp (valuesOf m (s .held) temp integrity))
-  unfolding readingsAfter valuesOf peakAfter trofAfter
+  read : {p q : State} (elec temp : ℤ) (integrity : ℕ) → Opposite step steps p q → Opposite step steps (stateAfterReading c p elec temp integrity) (stateAfterReading m q (negℤ elec) temp integrity)
+  unfolding stateAfterReading stateAfterValues readingsAfter valuesOf peakAfter trofAfter
   read {p} {q} elec temp integrity h =
-      let e = heldBy (c .filter) (rememberedOf p) elec in
-      let held : heldBy (m .filter) (rememberedOf q) (negℤ elec) ≡ negℤ e =
-      ap (λ (f : Filter). heldBy f (rememberedOf q) (negℤ elec)) (k .filter) ∙ ap (λ (r : Option Remembered). heldBy (c .filter) r (negℤ elec)) (remembers h) ∙ pulling .filter (c .filter) (rememberedOf p) elec in
-      let s = near .syss e temp in
+      let r = p .readings in
+      let s = q .readings in
+      let e = heldBy (c .filter) (rememberedOf r) elec in
+      let held : heldBy (m .filter) (rememberedOf s) (negℤ elec) ≡ negℤ e =
+      ap (λ (f : Filter). heldBy f (rememberedOf s) (negℤ elec)) (k .filter) ∙ ap (λ (o : Option Remembered). heldBy (c .filter) o (negℤ elec)) (remembers h) ∙ pulling .filter (c .filter) (rememberedOf r) elec in
+      let pulls = pulling .reading c m e temp ok k in
+      let n = near .syss e temp in
       rw held (record {
         any-is = refl;
         input-is = refl;
         elec-is = refl;
         temp-is = refl;
-        craw-is = pulling .reading c m e temp ok k .craw-is;
+        craw-is = pulls .craw-is;
         cell-near = near .cells e temp;
         sraw-near = near .sraws e temp;
-        sys-near = s;
-        peak-near = rw (h .any-is) (peak-opposed (p .any) (q .peak) (sys m (negℤ e) temp) (p .trof) (sys c e temp) (h .peak-near) s);
-        trof-near = rw (h .any-is) (trof-opposed (p .any) (q .trof) (sys m (negℤ e) temp) (p .peak) (sys c e temp) (h .trof-near) s);
+        sys-near = n;
+        peak-near = rw (h .any-is) (peak-opposed (r .any) (s .peak) (sys m (negℤ e) temp) (r .trof) (sys c e temp) (h .peak-near) n);
+        trof-near = rw (h .any-is) (trof-opposed (r .any) (s .trof) (sys m (negℤ e) temp) (r .peak) (sys c e temp) (h .trof-near) n);
+        flags = latched (h .flags) (pulls .flags integrity);
       })
 
   -- ---- a run of them
 
-  step-on : (d e : Device) (x : Sample) → d .setup .figures ≡ c → e .setup .figures ≡ m → Opposite step steps (d .state .readings) (e .state .readings)
-      → Opposite step steps (afterCall d (push x) .state .readings) (afterCall e (pull x) .state .readings)
-  unfolding stateAfterReading stateAfterValues
+  step-on : (d e : Device) (x : Sample) → d .setup .figures ≡ c → e .setup .figures ≡ m → Opposite step steps (d .state) (e .state)
+      → Opposite step steps (afterCall d (push x) .state) (afterCall e (pull x) .state)
   step-on d e x cd me h = rw (bad-odd (x .elec) (x .temp) (x .integrity)) (picked (badReading (x .elec) (x .temp) (x .integrity)))
     where
-      picked : (b : Bool) → Opposite step steps (cond b d (afterReading d (x .elec) (x .temp) (x .integrity)) .state .readings) (cond b e (afterReading e (negℤ (x .elec)) (x .temp) (x .integrity)) .state .readings)
+      picked : (b : Bool) → Opposite step steps (cond b d (afterReading d (x .elec) (x .temp) (x .integrity)) .state) (cond b e (afterReading e (negℤ (x .elec)) (x .temp) (x .integrity)) .state)
       picked true = h
       picked false = rw (cd, me) (read (x .elec) (x .temp) (x .integrity) h)
 
-  runs : (d e : Device) (samples : List Sample) → d .setup .figures ≡ c → e .setup .figures ≡ m → Opposite step steps (d .state .readings) (e .state .readings)
-      → Opposite step steps (run d (map push samples) .state .readings) (run e (map pull samples) .state .readings)
+  runs : (d e : Device) (samples : List Sample) → d .setup .figures ≡ c → e .setup .figures ≡ m → Opposite step steps (d .state) (e .state)
+      → Opposite step steps (run d (map push samples) .state) (run e (map pull samples) .state)
   runs d e [] cd me h = h
   runs d e (x ∷ rest) cd me h = runs (afterCall d (push x)) (afterCall e (pull x)) rest (kept d (x .elec) x ∙ cd) (kept e (negℤ (x .elec)) x ∙ me) (step-on d e x cd me h)
     where
@@ -141,9 +157,9 @@ module _ {step steps : ℕ} {c m : Calibration} (ok : Acceptable c) (k : Mirrors
 
 -- ---- from the making on
 
-nothing-yet : {step steps : ℕ} → Opposite step steps (fresh .readings) (fresh .readings)
-unfolding fresh
-nothing-yet = record { any-is = refl; input-is = refl; elec-is = refl; temp-is = refl; craw-is = refl; cell-near = none; sraw-near = none; sys-near = none; peak-near = none; trof-near = none }
+nothing-yet : {step steps : ℕ} → Opposite step steps fresh fresh
+unfolding fresh bitAt
+nothing-yet = record { any-is = refl; input-is = refl; elec-is = refl; temp-is = refl; craw-is = refl; cell-near = none; sraw-near = none; sys-near = none; peak-near = none; trof-near = none; flags = record { ecomur-is = refl; ecomor-is = refl; crawur-is = refl; crawor-is = refl; tempur-is = refl; tempor-is = refl; lcinteg-is = refl } }
   where
     none : {n : ℕ} → (pos 0 +ℤ pos 0) within n
     none = record { abs = omega arith }
@@ -155,10 +171,10 @@ module _ (sheet mirror : List ℕ) (station other : ℕ) (pair : Pair sheet mirr
   ok : Acceptable figures
   ok = making-sound sheet station (pair .accepted) .acceptable
 
-  from-making : {step steps : ℕ} → Keeps step steps figures (readSheet mirror .figures) → (samples : List Sample) → Opposite step steps (shows sheet station (map push samples)) (shows mirror other (map pull samples))
+  from-making : {step steps : ℕ} → Keeps step steps figures (readSheet mirror .figures) → (samples : List Sample) → Opposite step steps (stateOf sheet station (map push samples)) (stateOf mirror other (map pull samples))
   from-making {step} {steps} near samples =
-      subst (λ (d : Device). Opposite step steps (run d (map push samples) .state .readings) (shows mirror other (map pull samples))) (sym (making-accepted sheet station (pair .accepted) .starts))
-      (subst (λ (e : Device). Opposite step steps (run (started (setupOf sheet station)) (map push samples) .state .readings) (run e (map pull samples) .state .readings)) (sym (making-accepted mirror other (pair .mirror-accepted) .starts))
+      subst (λ (d : Device). Opposite step steps (run d (map push samples) .state) (stateOf mirror other (map pull samples))) (sym (making-accepted sheet station (pair .accepted) .starts))
+      (subst (λ (e : Device). Opposite step steps (run (started (setupOf sheet station)) (map push samples) .state) (run e (map pull samples) .state)) (sym (making-accepted mirror other (pair .mirror-accepted) .starts))
       (runs ok (pair .mirrors) near (started (setupOf sheet station)) (started (setupOf mirror other)) samples refl refl
       nothing-yet))
 

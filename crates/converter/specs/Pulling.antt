@@ -3,13 +3,14 @@
 use mathlib.Core.Path.{_≡_}
 use mathlib.Core.List.{List, map}
 use Prim.Native.Nat.{ℕ}
-use lib.IntN.{ℤ, negℤ, _+ℤ_}
+use lib.IntN.{negℤ, _+ℤ_}
 use Rattle.integers.specs.Within.{_within_}
 use Rattle.arithmetic.specs.Keeps.{ColumnWithin}
 use Rattle.figures.specs.Rows.{linearities}
 use Rattle.figures.specs.Mirror.{Mirrors}
 use Rattle.sheet.specs.Read.{readSheet}
-use Rattle.state.specs.declared.Readings.{Readings}
+use Rattle.compensation.specs.Pulling.{ChangeSides}
+use Rattle.state.specs.declared.State.{State}
 use Rattle.converter.specs.Making.{made}
 use Rattle.converter.specs.Call.{Call, reading, number, run}
 use Rattle.converter.specs.declared.Device.{Device}
@@ -21,21 +22,22 @@ push x = reading (x .elec) (x .temp) (x .integrity)
 abbrev pub pull : Sample → Call
 pull x = reading (negℤ (x .elec)) (x .temp) (x .integrity)
 
--- what the pushed device p and the pulled device q show: ELEC as it came and as it is held, and CRAW, with the other sign; CELL to a step or
--- exactly, and what comes of it to so many
-module _ (step steps : ℕ) (p q : Readings) where
+-- the state of the device pushed, p, and of the one pulled, q: ELEC as it came and as it is held, and CRAW, with the other sign; CELL to
+-- `step`, and what comes of it to `steps`; and FLAG
+module _ (step steps : ℕ) (p q : State) where
   pub record Opposite : Type 0 where
-    pub any-is : q .any ≡ p .any
-    pub input-is : q .input ≡ negℤ (p .input)
-    pub elec-is : q .elec ≡ negℤ (p .elec)
-    pub temp-is : q .temp ≡ p .temp
-    pub craw-is : q .values .craw ≡ negℤ (p .values .craw)
-    pub cell-near : (q .values .cell +ℤ p .values .cell) within step
-    pub sraw-near : (q .values .sraw +ℤ p .values .sraw) within steps
-    pub sys-near : (q .values .sys +ℤ p .values .sys) within steps
+    pub any-is : q .readings .any ≡ p .readings .any
+    pub input-is : q .readings .input ≡ negℤ (p .readings .input)
+    pub elec-is : q .readings .elec ≡ negℤ (p .readings .elec)
+    pub temp-is : q .readings .temp ≡ p .readings .temp
+    pub craw-is : q .readings .values .craw ≡ negℤ (p .readings .values .craw)
+    pub cell-near : (q .readings .values .cell +ℤ p .readings .values .cell) within step
+    pub sraw-near : (q .readings .values .sraw +ℤ p .readings .values .sraw) within steps
+    pub sys-near : (q .readings .values .sys +ℤ p .readings .values .sys) within steps
     -- a trough of the one is a peak of the other
-    pub peak-near : (q .peak +ℤ p .trof) within steps
-    pub trof-near : (q .trof +ℤ p .peak) within steps
+    pub peak-near : (q .readings .peak +ℤ p .readings .trof) within steps
+    pub trof-near : (q .readings .trof +ℤ p .readings .peak) within steps
+    pub flags : ChangeSides (p .flag) (q .flag)
 
 -- a sheet for the cell pushed and one for it pulled, each accepted
 pub record Pair (sheet mirror : List ℕ) (station other : ℕ) : Type 0 where
@@ -43,9 +45,9 @@ pub record Pair (sheet mirror : List ℕ) (station other : ℕ) : Type 0 where
   pub mirror-accepted : made mirror other .number ≡ 0
   pub mirrors : Mirrors (readSheet sheet .figures) (readSheet mirror .figures)
 
--- what a device made of a sheet shows after some calls
-abbrev pub shows : List ℕ → ℕ → List Call → Readings
-shows sheet station calls = run (made sheet station .device) calls .state .readings
+-- the state of a device made of a sheet, after some calls
+abbrev pub stateOf : List ℕ → ℕ → List Call → State
+stateOf sheet station calls = run (made sheet station .device) calls .state
 
 pub record Mirror (sheet : List ℕ) (station : ℕ) : Type 0 where
   pub bytes : List ℕ
@@ -56,9 +58,9 @@ pub record BothWays : Type 0 where
   pub number-is : (d e : Device) (x : Sample) → number e (pull x) ≡ number d (push x)
   -- after any run
   pub near : (sheet mirror : List ℕ) (station other : ℕ) → Pair sheet mirror station other
-      → (samples : List Sample) → Opposite 1 8 (shows sheet station (map push samples)) (shows mirror other (map pull samples))
+      → (samples : List Sample) → Opposite 1 8 (stateOf sheet station (map push samples)) (stateOf mirror other (map pull samples))
   -- and exactly, where the sheet corrects nothing: every CLK is 0
   pub exact : (sheet mirror : List ℕ) (station other : ℕ) → Pair sheet mirror station other → ColumnWithin 1 0 (linearities (readSheet sheet .figures .linearity))
-      → (samples : List Sample) → Opposite 0 0 (shows sheet station (map push samples)) (shows mirror other (map pull samples))
+      → (samples : List Sample) → Opposite 0 0 (stateOf sheet station (map push samples)) (stateOf mirror other (map pull samples))
   -- for every accepted sheet there is such a pair
   pub paired : (sheet : List ℕ) (station : ℕ) → made sheet station .number ≡ 0 → Mirror sheet station

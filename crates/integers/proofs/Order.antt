@@ -1,5 +1,5 @@
 -- The order of whole numbers: its laws, products of inequalities, and what a test says. Assumes nothing.
-use mathlib.Core.Path.{_≡_, refl, sym, subst}
+use mathlib.Core.Path.{_≡_, refl, sym, _∙_, subst}
 use mathlib.Core.Bool.{Bool, true, false, not, cond}
 use mathlib.Core.Logic.{_⊎_, inl, inr, ⊎-elim}
 use Prim.Native.Nat.{ℕ, _+_, _*_, _-_, _≤_}
@@ -104,6 +104,10 @@ neg-le {a} {b} h = le! (minus ⟨ b ⟩) (minus ⟨ a ⟩) (omega ints)
 
 pub neg-lt : {a b : ℤ} → a <ℤ b → negℤ b <ℤ negℤ a
 neg-lt {a} {b} h = lt! (minus ⟨ b ⟩) (minus ⟨ a ⟩) (omega ints)
+
+-- so a test goes the other way
+pub lt-neg : (a b : ℤ) → ltZ (negℤ a) (negℤ b) ≡ ltZ b a
+lt-neg a b = ⊎-elim (λ l. no-lt (neg-le l) ∙ sym (no-lt l)) (λ l. yes-lt (neg-lt l) ∙ sym (yes-lt l)) (≤-or-> a b)
 
 -- ---- products
 
