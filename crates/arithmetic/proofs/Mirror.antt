@@ -3,13 +3,13 @@
 -- nothing.
 use mathlib.Core.Path.{_≡_, refl, sym, _∙_, ap, subst}
 use mathlib.Core.Bool.{Bool, true, false, cond}
-use mathlib.Core.List.{List, [], _∷_, _++_, map}
+use mathlib.Core.List.{List, [], _∷_, _++_, map, append-assoc}
 use mathlib.Core.Logic.{_⊎_, inl, inr, ⊎-elim}
 use Prim.Native.Nat.{ℕ, zero, suc, _+_, _*_, _<_, _≤_}
 use native.Mathlib.Omega.{arith}
 use native.Mathlib.Nat.{eq-or-lt-of-le, eq-zero-or-pos, lt-of-mul-lt-mul-right, mul-le-mul}
 use lib.IntN.{ℤ, pos, negsuc, negℤ, natAbs, _+ℤ_, _-ℤ_, _*ℤ_, +ℤ-idr, +ℤ-invl, negℤ-+ℤ}
-use lib.Signed.{leZ, _≤ℤ_, _<ℤ_, <ℤ-≤ℤ-trans, clashℤ}
+use lib.Signed.{leZ, leZ-yes, _≤ℤ_, _<ℤ_, <ℤ-≤ℤ-trans, clashℤ}
 use Rattle.integers.specs.Within.{_within_}
 use Rattle.integers.proofs.Parts.{ints}
 use Rattle.integers.proofs.Difference.{⟨_⟩, nat, minus, _⊕_, _⊗_, le!, lt!, eq!, abs-above, abs-below}
@@ -20,7 +20,7 @@ use Rattle.arithmetic.specs.Round.{roundMagnitude, roundDiv}
 use Rattle.arithmetic.specs.Fraction.{whole}
 use Rattle.arithmetic.specs.Table.{Point, column, place, line, between, betweenF, interpolated, interpolatedF}
 use Rattle.arithmetic.specs.Keeps.{Rising, Neighbours, Each, ColumnWithin}
-use Rattle.arithmetic.specs.Mirror.{opposite, mirrored, Beside, HalfWay, OneStepApart}
+use Rattle.arithmetic.specs.Mirror.{opposite, mirrored, InNoSegment, HalfWay, OneStepApart}
 use Rattle.arithmetic.proofs.Round.{round-near, round-odd}
 use Rattle.arithmetic.proofs.Near.{one-pos}
 use Rattle.arithmetic.proofs.Exact.{exact-above, exact-small}
@@ -46,11 +46,7 @@ grown S (a ∷ (b ∷ rest)) q p h s = (h .0, grown S (b ∷ rest) q p (h .1) s)
 
 -- the first two, as the mirror has them: its last two
 last-two : (p q : Point) (rest : List Point) → mirrored (p ∷ (q ∷ rest)) ≡ mirrored rest ++ (opposite q ∷ (opposite p ∷ []))
-last-two p q rest = append (mirrored rest) (opposite q) (opposite p)
-  where
-    append : (table : List Point) (a b : Point) → (table ++ (a ∷ [])) ++ (b ∷ []) ≡ table ++ (a ∷ (b ∷ []))
-    append [] a b = refl
-    append (c ∷ table) a b = ap (λ (l : List Point). c ∷ l) (append table a b)
+last-two p q rest = append-assoc (mirrored rest) (opposite q ∷ []) (opposite p ∷ [])
 
 pub mirrored-neighbours : (R S : Point → Point → Type 0) → ((p q : Point) → R p q → S (opposite q) (opposite p)) → (table : List Point) → Neighbours R table → Neighbours S (mirrored table)
 mirrored-neighbours R S f [] h = tt
@@ -292,12 +288,12 @@ module _ (j : ℕ) (t : ℤ) where
       )
 
   -- and inside no segment
-  pub mirrored-beside : (table : List Point) → Rising table → Beside t table → Opposed (interpolated j (mirrored table) (negℤ t)) (interpolated j table t)
+  pub mirrored-beside : (table : List Point) → Rising table → InNoSegment t table → Opposed (interpolated j (mirrored table) (negℤ t)) (interpolated j table t)
   unfolding interpolated
   mirrored-beside [] h b = refl
   mirrored-beside (p ∷ rest) h b = holds j t Opposed (λ v. refl) p rest h (each (p ∷ rest) b)
     where
-      each : (table : List Point) → Beside t table → Segments j t Opposed (λ v. refl) table
+      each : (table : List Point) → InNoSegment t table → Segments j t Opposed (λ v. refl) table
       each [] b = tt
       each (p ∷ []) b = tt
       each (p ∷ (q ∷ rest)) b = (λ l u. ⊎-elim (λ e. clashℤ l e) (λ e. clashℤ u e) (b .0), λ u. each (q ∷ rest) (b .1))
@@ -314,7 +310,17 @@ none-no-half j table t h z k =
 
 pub one-step-apart : OneStepApart
 unfolding roundDiv roundMagnitude between betweenF interpolated interpolatedF
-one-step-apart = record { pushed = refl; pulled = refl; half-way = record { below = pos 2; half = refl } }
+one-step-apart = record {
+  pushed = refl;
+  pulled = refl;
+  half-way = record { below = pos 2; half = refl };
+  not-half-way = λ k. even (k .below) (k .half);
+  at-points = ((inl (leZ-yes tt), tt), (inr (leZ-yes tt), tt));
+  inside = λ b. ⊎-elim (λ l. absurd (l .le)) (λ l. absurd (l .le)) (b .0);
+}
+  where
+    even : (b : ℤ) → pos 40 ≡ (pos 2 *ℤ b +ℤ pos 1) *ℤ pos 4 → ⊥
+    even b e = omega (ints, e, ((nat 2 ⊗ ⟨ b ⟩ ⊕ nat 1) ⊗ nat 4) .is)
 
 -- ---- the same points with one value of the other sign: CTO, whose place is a temperature
 

@@ -17,8 +17,8 @@ mirrored [] = []
 mirrored (p ∷ rest) = mirrored rest ++ (opposite p ∷ [])
 
 -- t lies inside no segment: at or outside the points
-abbrev pub Beside : ℤ → List Point → Type 0
-Beside t = Neighbours (λ p q. (t ≤ℤ place p) ⊎ (place q ≤ℤ t))
+abbrev pub InNoSegment : ℤ → List Point → Type 0
+InNoSegment t = Neighbours (λ p q. (t ≤ℤ place p) ⊎ (place q ≤ℤ t))
 
 -- q lies half-way between `below` and the next whole number
 pub record HalfWay (q : Fraction) : Type 0 where
@@ -36,3 +36,7 @@ pub record OneStepApart : Type 0 where
   pub pushed : interpolated 1 twoPoints (pos 1) ≡ pos 3
   pub pulled : interpolated 1 (mirrored twoPoints) (negℤ (pos 1)) ≡ negℤ (pos 2)
   pub half-way : HalfWay (interpolatedF 1 twoPoints (whole (pos 1)))
+  -- what is neither: 5, at 2, is whole; a point is inside no segment, and 1 is
+  pub not-half-way : HalfWay (interpolatedF 1 twoPoints (whole (pos 2))) → ⊥
+  pub at-points : InNoSegment (pos 0) twoPoints × InNoSegment (pos 4) twoPoints
+  pub inside : InNoSegment (pos 1) twoPoints → ⊥

@@ -8,7 +8,7 @@ use Rattle.integers.specs.Within.{_within_}
 use Rattle.arithmetic.specs.Round.{roundDiv}
 use Rattle.arithmetic.specs.Fraction.{whole}
 use Rattle.arithmetic.specs.Table.{interpolatedF}
-use Rattle.arithmetic.specs.Mirror.{Beside, HalfWay}
+use Rattle.arithmetic.specs.Mirror.{InNoSegment, HalfWay}
 use Rattle.figures.specs.Rows.{linearities}
 use Rattle.figures.specs.Acceptable.{Acceptable}
 use Rattle.figures.specs.Mirror.{Mirrors}
@@ -50,7 +50,7 @@ module _ (c m : Calibration) (elec temp : ℤ) where
     pub flags : (integrity : ℕ) → ChangeSides (stat c elec temp integrity) (stat m (negℤ elec) temp integrity)
     pub craw-is : craw m (negℤ elec) temp ≡ negℤ (craw c elec temp)
     -- where no correction is interpolated between two points
-    pub beside : Beside (craw c elec temp) (linearities (c .linearity)) → Exactly
+    pub beside : InNoSegment (craw c elec temp) (linearities (c .linearity)) → Exactly
     -- and where it is, unless the exact correction lies half-way between two steps: a mirrored table is read from its other end, and each
     -- rounds away from the point that it reads from
     pub no-half : (HalfWay (interpolatedF 1 (linearities (c .linearity)) (whole (craw c elec temp))) → ⊥) → Exactly

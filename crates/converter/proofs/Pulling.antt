@@ -14,6 +14,7 @@ use Rattle.integers.proofs.Parts.{ints}
 use Rattle.integers.proofs.Difference.{⟨_⟩, _⊕_, le! }
 use Rattle.integers.proofs.Order.{pick, lt-yes, lt-no, lt-neg}
 use Rattle.integers.proofs.Magnitude.{within-between}
+use Rattle.arithmetic.specs.Table.{Point}
 use Rattle.arithmetic.specs.Keeps.{ColumnWithin}
 use Rattle.arithmetic.proofs.Mirror.{none-no-half}
 use Rattle.figures.specs.Rows.{linearities}
@@ -41,7 +42,7 @@ use Rattle.converter.specs.Making.{stationFits, setupOf, started, made}
 use Rattle.converter.specs.Call.{reading, number, run, afterCall, afterReading}
 use Rattle.converter.specs.declared.Device.{Device}
 use Rattle.converter.specs.declared.corner.Sample.{Sample}
-use Rattle.converter.specs.Pulling.{push, pull, Opposite, Pair, Mirror, stateOf, BothWays}
+use Rattle.converter.specs.Pulling.{push, pull, Opposite, Pair, MirroredSheet, tableOf, stateOf, BothWays}
 use Rattle.converter.proofs.Made.{making-accepted, making-sound}
 
 -- ---- what turns a reading down is the same both ways
@@ -104,7 +105,10 @@ pub record Keeps (step steps : ℕ) (c m : Calibration) : Type 0 where
   pub syss : (elec temp : ℤ) → (sys m (negℤ elec) temp +ℤ sys c elec temp) within steps
 
 module _ {step steps : ℕ} {c m : Calibration} (ok : Acceptable c) (k : Mirrors c m) (near : Keeps step steps c m) where
-  remembers : {p q : State} → Opposite step steps p q → rememberedOf (q .readings) ≡ pulledMemory (rememberedOf (p .readings))
+  abbrev table : List Point
+  table = linearities (c .linearity)
+
+  remembers : {p q : State} → Opposite step steps table p q → rememberedOf (q .readings) ≡ pulledMemory (rememberedOf (p .readings))
   remembers {p} {q} h = rw (h .any-is, h .input-is, h .elec-is) (picked (p .readings .any))
     where
       picked : (b : Bool) → cond b (some (record { input = negℤ (p .readings .input); held = negℤ (p .readings .elec) })) none
@@ -112,7 +116,7 @@ module _ {step steps : ℕ} {c m : Calibration} (ok : Acceptable c) (k : Mirrors
       picked true = refl
       picked false = refl
 
-  read : {p q : State} (elec temp : ℤ) (integrity : ℕ) → Opposite step steps p q → Opposite step steps (stateAfterReading c p elec temp integrity) (stateAfterReading m q (negℤ elec) temp integrity)
+  read : {p q : State} (elec temp : ℤ) (integrity : ℕ) → Opposite step steps table p q → Opposite step steps table (stateAfterReading c p elec temp integrity) (stateAfterReading m q (negℤ elec) temp integrity)
   unfolding stateAfterReading stateAfterValues readingsAfter valuesOf peakAfter trofAfter
   read {p} {q} elec temp integrity h =
       let r = p .readings in
@@ -131,6 +135,7 @@ module _ {step steps : ℕ} {c m : Calibration} (ok : Acceptable c) (k : Mirrors
         cell-near = near .cells e temp;
         sraw-near = near .sraws e temp;
         sys-near = n;
+        exactly = λ z. let x = pulls .no-half z in (x .cell-is, x .sraw-is, x .sys-is);
         peak-near = rw (h .any-is) (peak-opposed (r .any) (s .peak) (sys m (negℤ e) temp) (r .trof) (sys c e temp) (h .peak-near) n);
         trof-near = rw (h .any-is) (trof-opposed (r .any) (s .trof) (sys m (negℤ e) temp) (r .peak) (sys c e temp) (h .trof-near) n);
         flags = latched (h .flags) (pulls .flags integrity);
@@ -138,16 +143,16 @@ module _ {step steps : ℕ} {c m : Calibration} (ok : Acceptable c) (k : Mirrors
 
   -- ---- a run of them
 
-  step-on : (d e : Device) (x : Sample) → d .setup .figures ≡ c → e .setup .figures ≡ m → Opposite step steps (d .state) (e .state)
-      → Opposite step steps (afterCall d (push x) .state) (afterCall e (pull x) .state)
+  step-on : (d e : Device) (x : Sample) → d .setup .figures ≡ c → e .setup .figures ≡ m → Opposite step steps table (d .state) (e .state)
+      → Opposite step steps table (afterCall d (push x) .state) (afterCall e (pull x) .state)
   step-on d e x cd me h = rw (bad-odd (x .elec) (x .temp) (x .integrity)) (picked (badReading (x .elec) (x .temp) (x .integrity)))
     where
-      picked : (b : Bool) → Opposite step steps (cond b d (afterReading d (x .elec) (x .temp) (x .integrity)) .state) (cond b e (afterReading e (negℤ (x .elec)) (x .temp) (x .integrity)) .state)
+      picked : (b : Bool) → Opposite step steps table (cond b d (afterReading d (x .elec) (x .temp) (x .integrity)) .state) (cond b e (afterReading e (negℤ (x .elec)) (x .temp) (x .integrity)) .state)
       picked true = h
       picked false = rw (cd, me) (read (x .elec) (x .temp) (x .integrity) h)
 
-  runs : (d e : Device) (samples : List Sample) → d .setup .figures ≡ c → e .setup .figures ≡ m → Opposite step steps (d .state) (e .state)
-      → Opposite step steps (run d (map push samples) .state) (run e (map pull samples) .state)
+  runs : (d e : Device) (samples : List Sample) → d .setup .figures ≡ c → e .setup .figures ≡ m → Opposite step steps table (d .state) (e .state)
+      → Opposite step steps table (run d (map push samples) .state) (run e (map pull samples) .state)
   runs d e [] cd me h = h
   runs d e (x ∷ rest) cd me h = runs (afterCall d (push x)) (afterCall e (pull x)) rest (kept d (x .elec) x ∙ cd) (kept e (negℤ (x .elec)) x ∙ me) (step-on d e x cd me h)
     where
@@ -157,9 +162,9 @@ module _ {step steps : ℕ} {c m : Calibration} (ok : Acceptable c) (k : Mirrors
 
 -- ---- from the making on
 
-nothing-yet : {step steps : ℕ} → Opposite step steps fresh fresh
+nothing-yet : {step steps : ℕ} {table : List Point} → Opposite step steps table fresh fresh
 unfolding fresh bitAt
-nothing-yet = record { any-is = refl; input-is = refl; elec-is = refl; temp-is = refl; craw-is = refl; cell-near = none; sraw-near = none; sys-near = none; peak-near = none; trof-near = none; flags = record { ecomur-is = refl; ecomor-is = refl; crawur-is = refl; crawor-is = refl; tempur-is = refl; tempor-is = refl; lcinteg-is = refl } }
+nothing-yet = record { any-is = refl; input-is = refl; elec-is = refl; temp-is = refl; craw-is = refl; cell-near = none; sraw-near = none; sys-near = none; exactly = λ _. (refl, refl, refl); peak-near = none; trof-near = none; flags = record { ecomur-is = refl; ecomor-is = refl; crawur-is = refl; crawor-is = refl; tempur-is = refl; tempor-is = refl; lcinteg-is = refl } }
   where
     none : {n : ℕ} → (pos 0 +ℤ pos 0) within n
     none = record { abs = omega arith }
@@ -171,10 +176,10 @@ module _ (sheet mirror : List ℕ) (station other : ℕ) (pair : Pair sheet mirr
   ok : Acceptable figures
   ok = making-sound sheet station (pair .accepted) .acceptable
 
-  from-making : {step steps : ℕ} → Keeps step steps figures (readSheet mirror .figures) → (samples : List Sample) → Opposite step steps (stateOf sheet station (map push samples)) (stateOf mirror other (map pull samples))
+  from-making : {step steps : ℕ} → Keeps step steps figures (readSheet mirror .figures) → (samples : List Sample) → Opposite step steps (tableOf sheet) (stateOf sheet station (map push samples)) (stateOf mirror other (map pull samples))
   from-making {step} {steps} near samples =
-      subst (λ (d : Device). Opposite step steps (run d (map push samples) .state) (stateOf mirror other (map pull samples))) (sym (making-accepted sheet station (pair .accepted) .starts))
-      (subst (λ (e : Device). Opposite step steps (run (started (setupOf sheet station)) (map push samples) .state) (run e (map pull samples) .state)) (sym (making-accepted mirror other (pair .mirror-accepted) .starts))
+      subst (λ (d : Device). Opposite step steps (tableOf sheet) (run d (map push samples) .state) (stateOf mirror other (map pull samples))) (sym (making-accepted sheet station (pair .accepted) .starts))
+      (subst (λ (e : Device). Opposite step steps (tableOf sheet) (run (started (setupOf sheet station)) (map push samples) .state) (run e (map pull samples) .state)) (sym (making-accepted mirror other (pair .mirror-accepted) .starts))
       (runs ok (pair .mirrors) near (started (setupOf sheet station)) (started (setupOf mirror other)) samples refl refl
       nothing-yet))
 
@@ -184,9 +189,9 @@ module _ (sheet mirror : List ℕ) (station other : ℕ) (pair : Pair sheet mirr
   keeps-near : Keeps 1 8 figures (readSheet mirror .figures)
   keeps-near = record { cells = λ e t. pulls e t .cell-near; sraws = λ e t. pulls e t .sraw-near; syss = λ e t. pulls e t .sys-near }
 
-  module _ (z : ColumnWithin 1 0 (linearities (figures .linearity))) where
+  module _ (z : ColumnWithin 1 0 (tableOf sheet)) where
     exactly : (elec temp : ℤ) → Exactly figures (readSheet mirror .figures) elec temp
-    exactly elec temp = pulls elec temp .no-half (none-no-half 1 (linearities (figures .linearity)) (craw figures elec temp) (ok .linearity-ok .rising) z)
+    exactly elec temp = pulls elec temp .no-half (none-no-half 1 (tableOf sheet) (craw figures elec temp) (ok .linearity-ok .rising) z)
 
     keeps-exact : Keeps 0 0 figures (readSheet mirror .figures)
     keeps-exact = record { cells = λ e t. none _ _ (exactly e t .cell-is); sraws = λ e t. none _ _ (exactly e t .sraw-is); syss = λ e t. none _ _ (exactly e t .sys-is) }
@@ -200,7 +205,7 @@ accepted-making : (sheet : List ℕ) (station : ℕ) → stationFits station ≡
 unfolding made
 accepted-making sheet station s h = rw (s, h)
 
-paired : (sheet : List ℕ) (station : ℕ) → made sheet station .number ≡ 0 → Mirror sheet station
+paired : (sheet : List ℕ) (station : ℕ) → made sheet station .number ≡ 0 → MirroredSheet sheet station
 paired sheet station h =
     let c = readSheet sheet .figures in
     let a = making-accepted sheet station h in
