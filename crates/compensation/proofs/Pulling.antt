@@ -215,7 +215,7 @@ module _ (c m : Calibration) (elec temp : ℤ) (ok : Acceptable c) (k : Mirrors 
       together : (x u v : ℤ) → (negℤ x +ℤ u) +ℤ (x +ℤ v) ≡ u +ℤ v
       together x u v = ring (x ∷ u ∷ v ∷ []) (search polynomials depth 20 fits 9000) refl
 
-  -- step 5, from any CELL of the pulled cell
+  -- step 5, where CELL is the exact negative
   module _ (e : cell m (negℤ elec) temp ≡ negℤ (cell c elec temp)) where
     raw-system-odd : rawSystem m (negℤ elec) temp ≡ negℤ (rawSystem c elec temp)
     unfolding rawSystem
@@ -235,6 +235,7 @@ module _ (c m : Calibration) (elec temp : ℤ) (ok : Acceptable c) (k : Mirrors 
       sysor-is = λ i. stat-bits m (negℤ elec) temp i .sysor-is ∙ turned (c .system .smin) (rawSystem c elec temp) (k .smax) raw-system-odd ∙ sym (stat-bits c elec temp i .sysur-is);
     }
 
+  -- and where it is within a step
   raw-system-opposed : (rawSystem m (negℤ elec) temp +ℤ rawSystem c elec temp) within 8
   unfolding rawSystem
   raw-system-opposed =
