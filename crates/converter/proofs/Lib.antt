@@ -3,6 +3,7 @@ mod Events
 mod Extremes
 pub mod Made
 pub mod StationFirst
+pub mod SameDevice
 pub mod Station
 pub mod Wire
 mod Listed

@@ -9,7 +9,7 @@ use borrow.Author.Tests.{eq-eqb, eqb-true}
 use Rattle.integers.proofs.Order.{is-false}
 use Rattle.panel.proofs.Unused.{unused-in-range, unused-representable}
 use Rattle.converter.proofs.Sound.{SetupSound}
-use Rattle.sheet.specs.Read.{readSheet}
+use Rattle.sheet.specs.Forms.{readSheet}
 use Rattle.sheet.proofs.Theorems.{read-accepted}
 use Rattle.converter.specs.Making.{stationFits, setupOf, started, refused, made}
 use Rattle.converter.specs.declared.Outcome.{Outcome}

@@ -23,7 +23,7 @@ use Rattle.figures.specs.Mirror.{Mirrors}
 use Rattle.figures.specs.declared.Calibration.{Calibration}
 use Rattle.figures.specs.declared.Filter.{Filter}
 use Rattle.figures.proofs.Mirror.{mirrors-acceptable, mirrorOf, mirror-mirrors, mirror-representable, mirrors-unused}
-use Rattle.sheet.specs.Read.{readSheet}
+use Rattle.sheet.specs.Forms.{readSheet}
 use Rattle.sheet.specs.Write.{sheetBytes}
 use Rattle.sheet.specs.declared.Sheet.{Sheet}
 use Rattle.sheet.proofs.Theorems.{written-read, read-accepted}

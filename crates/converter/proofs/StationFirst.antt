@@ -1,14 +1,14 @@
 -- A station is judged as specs/Station.antt says. Assumes nothing.
-use mathlib.Core.Path.{_≡_, refl, sym, ap, _∙_}
+use mathlib.Core.Path.{_≡_, refl, sym, _∙_}
 use mathlib.Core.Logic.{_↔_}
-use mathlib.Core.Bool.{Bool, true, false, cond, _&&_, false≢true}
+use mathlib.Core.Bool.{Bool, true, false, _&&_, false≢true}
 use mathlib.Core.List.{List}
-use Prim.Native.Nat.{ℕ, _≤_}
+use Prim.Native.Nat.{ℕ}
 use native.Mathlib.Omega.{arith}
 use borrow.Author.Tests.{leb-true, le-leb, eqb-true}
 use lib.Dec.{eqb, leb}
 use Rattle.integers.proofs.Order.{pick}
-use Rattle.sheet.specs.Read.{readSheet, sheetNumber}
+use Rattle.sheet.specs.Forms.{readSheet, sheetNumber}
 use Rattle.sheet.proofs.Range.{sheet-numbers}
 use Rattle.converter.specs.Making.{stationFits, made, refused}
 use Rattle.converter.specs.Station.{Station, StationFirst}

@@ -11,3 +11,4 @@ pub mod Pulling
 pub mod History
 pub mod Starred
 pub mod Station
+pub mod SameDevice

@@ -4,7 +4,8 @@ use mathlib.Core.List.{List}
 use Prim.Native.Nat.{ℕ}
 use lib.Dec.{eqb, leb}
 use Rattle.figures.specs.Unused.{unusedZero}
-use Rattle.sheet.specs.Read.{noFigures, readSheet}
+use Rattle.sheet.specs.Read.{noFigures}
+use Rattle.sheet.specs.Forms.{readSheet}
 use Rattle.state.specs.Request.{noReadings, noSnapshot, fresh}
 use Rattle.in_force.specs.declared.Setup.{Setup}
 use Rattle.converter.specs.declared.Device.{Device}

@@ -11,7 +11,7 @@ use Rattle.arithmetic.specs.Keeps.{ColumnWithin}
 use Rattle.arithmetic.specs.Mirror.{HalfWay}
 use Rattle.figures.specs.Rows.{linearities}
 use Rattle.figures.specs.Mirror.{Mirrors}
-use Rattle.sheet.specs.Read.{readSheet}
+use Rattle.sheet.specs.Forms.{readSheet}
 use Rattle.compensation.specs.Pulling.{ChangeSides}
 use Rattle.state.specs.declared.State.{State}
 use Rattle.converter.specs.Making.{made}

@@ -14,7 +14,7 @@ use Rattle.figures.specs.Default.{defaultSheet, apart}
 use Rattle.figures.specs.Unused.{noTemperature}
 use Rattle.figures.specs.declared.Calibration.{Calibration}
 use Rattle.figures.specs.declared.Filter.{Filter}
-use Rattle.sheet.specs.Read.{sheetNumber}
+use Rattle.sheet.specs.Forms.{sheetNumber}
 use Rattle.sheet.specs.Write.{sheetBytes}
 use Rattle.compensation.specs.Filter.{filtered}
 use Rattle.compensation.specs.Reading.{rawCell, craw}

@@ -5,7 +5,7 @@ use mathlib.Core.Logic.{_↔_}
 use mathlib.Core.Bool.{true}
 use mathlib.Core.List.{List}
 use Prim.Native.Nat.{ℕ, _≤_}
-use Rattle.sheet.specs.Read.{sheetNumber}
+use Rattle.sheet.specs.Forms.{sheetNumber}
 use Rattle.converter.specs.Making.{stationFits, made}
 
 pub record Station (station : ℕ) : Type 0 where

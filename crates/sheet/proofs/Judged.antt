@@ -14,7 +14,7 @@ use Rattle.figures.specs.declared.Calibration.{Calibration}
 use Rattle.sheet.specs.Bytes.{countAt}
 use Rattle.sheet.specs.Places.{systemStart, filterStart, sheetEnd, sheetLength}
 use Rattle.sheet.specs.Judge.{_then_, never, shortOf, wrongCount, trailing, countNumber, rangeNumber, cellNumber, systemNumber, filterNumber, sectionsNumber, figuresNumber}
-use Rattle.sheet.specs.Read.{figuresOf, temperatureAt, linearityAt, sheetNumber, ctnOf, clnOf}
+use Rattle.sheet.specs.Read.{figuresOf, temperatureAt, linearityAt, oldNumber, ctnOf, clnOf}
 use Rattle.sheet.proofs.Chain.{then-none, then-zero}
 use Rattle.sheet.proofs.Numbers.{short-in, in-short, count-in, whole-in, in-whole}
 use Rattle.sheet.proofs.Whole.{sections-whole}
@@ -23,8 +23,8 @@ use Rattle.sheet.proofs.Cut.{SheetCut}
 use Rattle.sheet.proofs.Unused.{unused-judged}
 
 parts : (s : List ℕ) {a b d e : ℕ} {c : Calibration} → countAt s 0 ≡ a → countAt s (systemStart (ctnOf s) (clnOf s)) ≡ b → countAt s (filterStart (ctnOf s) (clnOf s)) ≡ d → figuresOf s ≡ c → sheetEnd (ctnOf s) (clnOf s) ≡ e
-    → sheetNumber s ≡ sectionsNumber (shortOf (length s)) a b d c then trailing (length s) e
-unfolding sheetNumber
+    → oldNumber s ≡ sectionsNumber (shortOf (length s)) a b d c then trailing (length s) e
+unfolding oldNumber
 parts s x y z w v = cc
 
 same-length : (c : Calibration) → sheetLength (unusedZero c) ≡ sheetLength c
@@ -32,7 +32,7 @@ unfolding unusedZero
 same-length c = refl
 
 -- the bytes of figures are judged as the figures are
-pub bytes-judged : (s : List ℕ) (c : Calibration) → SheetCut s c → sheetNumber s ≡ figuresNumber c
+pub bytes-judged : (s : List ℕ) (c : Calibration) → SheetCut s c → oldNumber s ≡ figuresNumber c
 unfolding figuresNumber
 bytes-judged s c k =
     parts s (k .cell-count) (k .system-count) (k .filter-count) (k .says) (k .ends)
@@ -70,7 +70,7 @@ pub record Faultless (s : List ℕ) : Type 0 where
   pub figures-none : figuresNumber (figuresOf s) ≡ 0
   pub long : length s ≡ sheetEnd (ctnOf s) (clnOf s)
 
-pub faultless : (s : List ℕ) → sheetNumber s ≡ 0 → Faultless s
+pub faultless : (s : List ℕ) → oldNumber s ≡ 0 → Faultless s
 unfolding figuresOf temperatureAt linearityAt figuresNumber
 faultless s z =
     let c = figuresOf s in

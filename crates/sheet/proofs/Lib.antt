@@ -12,7 +12,11 @@ pub mod Cut
 pub mod Glue
 pub mod Unused
 pub mod Judged
+pub mod OldForm
+pub mod EitherForm
+pub mod NewForm
 pub mod Theorems
+pub mod BothForms
 pub mod Range
 pub mod Edges
 mod DefaultBytes

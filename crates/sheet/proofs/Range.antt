@@ -8,7 +8,7 @@ use Prim.Native.Nat.{ℕ, zero, suc, _+_, _*_, _≤_}
 use native.Mathlib.Omega.{arith}
 use lib.Dec.{ltb}
 use lib.IntN.{ℤ, pos, negℤ, natAbs, _-ℤ_}
-use lib.ListN.{length, getD}
+use lib.ListN.{length, getD, drop}
 use lib.Signed.{ltZ}
 use Rattle.figures.specs.Limits.{cofsMost, cgaiMost, cellMost, ctMost, ctoMost, ctgMost, clxMost, clkMost, sofsMost, sgaiMost, systemMost, szMost, fflvMost, ffstMost}
 use Rattle.figures.specs.Unused.{noLinearity, noTemperature}
@@ -20,10 +20,12 @@ use Rattle.figures.specs.declared.Linearity.{Linearity}
 use Rattle.figures.specs.declared.System.{System}
 use Rattle.figures.specs.declared.Filter.{Filter}
 use Rattle.figures.specs.declared.Calibration.{Calibration}
-use Rattle.sheet.specs.Places.{temperatureStart, linearityStart, systemStart, filterStart, sheetEnd}
+use Rattle.sheet.specs.Places.{temperatureStart, linearityStart, systemStart, filterStart, sheetEnd, identitySize}
 use Rattle.sheet.specs.Judge.{_then_, shortOf, never, wrongCount, outOfRange, notBelow, tooSteep, trailing, pointsNumber, against}
 use Rattle.sheet.specs.Judge.{countNumber, rangeNumber, figureNumber, cellNumber, temperaturePointNumber, temperatureNumber, linearityPointNumber, linearityNumber, systemNumber, filterNumber, sectionsNumber, figuresNumber}
-use Rattle.sheet.specs.Read.{figuresOf, sheetNumber, ctnOf, clnOf}
+use Rattle.sheet.specs.Read.{figuresOf, oldNumber, ctnOf, clnOf}
+use Rattle.sheet.specs.Forms.{serialMost, dayMost, identityAt, identityNumber, sectionNumber, isNew, newNumber, sheetNumber}
+use Rattle.sheet.specs.declared.Identity.{Identity}
 use Rattle.sheet.specs.Bytes.{countAt}
 
 module _ (P : ℕ → Type 0) where
@@ -102,19 +104,32 @@ module _ (P : ℕ → Type 0) where
       unfolding filterNumber
       filter-keeps at n f = keep (count-keeps at 2 2 n) (keep (range-keeps (at + 1) (pos 0) (pos fflvMost) (f .fflv)) (range-keeps (at + 9) (pos 0) (pos ffstMost) (f .ffst)))
 
+      identity-keeps : (n : ℕ) (i : Identity) → P (identityNumber short n i)
+      unfolding identityNumber
+      identity-keeps n i = keep (count-keeps 0 2 2 n) (keep (range-keeps 1 (pos 0) (pos serialMost) (i .serial)) (range-keeps 9 (pos 0) (pos dayMost) (i .day)))
+
       sections-keep : (a b d : ℕ) (c : Calibration) → P (sectionsNumber short a b d c)
       unfolding sectionsNumber
       sections-keep a b d c =
           keep (cell-keeps 0 a (c .cell)) (keep (temperature-keeps temperatureStart (c .temperature)) (keep (linearity-keeps (linearityStart (c .temperature .ctn)) (c .linearity)) (keep (system-keeps (systemStart (c .temperature .ctn) (c .linearity .cln)) b (c .system)) (filter-keeps (filterStart (c .temperature .ctn) (c .linearity .cln)) d (c .filter)))))
 
 -- a sheet gets 0 to 7
-pub sheet-numbers : (s : List ℕ) → sheetNumber s ≤ 7
-unfolding sheetNumber shortOf trailing
-sheet-numbers s =
+old-numbers : (s : List ℕ) → oldNumber s ≤ 7
+unfolding oldNumber shortOf trailing
+old-numbers s =
     keep (λ k. k ≤ 7)
     (sections-keep (λ k. k ≤ 7) (omega arith) (omega arith) (omega arith) (omega arith) (omega arith) (omega arith) (shortOf (length s)) (λ e. picked (λ k. k ≤ 7) {a = 1} {b = 0} (ltb (length s) e) (omega arith) (omega arith))
     (countAt s 0) (countAt s (systemStart (ctnOf s) (clnOf s))) (countAt s (filterStart (ctnOf s) (clnOf s))) (figuresOf s))
     (picked (λ k. k ≤ 7) {a = 7} {b = 0} (ltb (sheetEnd (ctnOf s) (clnOf s)) (length s)) (omega arith) (omega arith))
+
+pub sheet-numbers : (s : List ℕ) → sheetNumber s ≤ 7
+unfolding sheetNumber newNumber sectionNumber shortOf
+sheet-numbers s =
+    picked (λ k. k ≤ 7) (isNew s)
+    (keep (λ k. k ≤ 7)
+    (identity-keeps (λ k. k ≤ 7) (omega arith) (omega arith) (omega arith) (omega arith) (omega arith) (omega arith) (shortOf (length s)) (λ e. picked (λ k. k ≤ 7) {a = 1} {b = 0} (ltb (length s) e) (omega arith) (omega arith))
+    (countAt s 0) (identityAt s)) (old-numbers (drop identitySize s)))
+    (old-numbers s)
 
 -- 2 to 6, or 0
 abbrev TwoToSix : ℕ → Type 0

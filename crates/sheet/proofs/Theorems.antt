@@ -1,101 +1,125 @@
--- What a laboratory and a plant may rely on, over all bytes and all figures. Assumes nothing.
-use mathlib.Core.Path.{_≡_, refl, sym, _∙_, ap}
-use mathlib.Core.List.{List}
-use mathlib.Core.Logic.{_↔_}
-use Prim.Native.Nat.{ℕ, _+_, min}
-use lib.ListN.{length}
-use borrow.Author.Tests.{ne-eqb}
+-- What a laboratory and a plant may rely on of sheets of either form, over all bytes and all figures. Assumes nothing.
+use mathlib.Core.Path.{_≡_, refl, sym, _∙_, ap, subst}
+use mathlib.Core.Bool.{Bool, true, false}
+use mathlib.Core.List.{List, _++_}
+use mathlib.Core.Logic.{_↔_, _⊎_, inl, inr, ⊎-elim}
+use Prim.Native.Nat.{ℕ, _+_}
+use native.Mathlib.Omega.{arith}
+use lib.ListN.{drop}
+use lib.Seq.{getD-drop}
+use borrow.Author.Tests.{ne-eqb, eqb-true}
 use Rattle.figures.specs.Acceptable.{Acceptable}
-use Rattle.figures.specs.Unused.{noLinearity, noTemperature, unusedZero}
+use Rattle.figures.specs.Unused.{unusedZero}
 use Rattle.figures.specs.Representable.{Representable, Fitting}
 use Rattle.figures.specs.declared.Calibration.{Calibration}
+use Rattle.sheet.specs.declared.Identity.{Identity}
 use Rattle.sheet.specs.declared.Sheet.{Sheet}
 use Rattle.sheet.specs.Bytes.{countAt, Bytes}
-use Rattle.sheet.specs.Places.{linearityStart, sheetLength}
-use Rattle.sheet.specs.Judge.{figuresNumber}
-use Rattle.sheet.specs.Read.{figuresOf, temperaturePointAt, linearityPointAt, temperatureAt, linearityAt, sheetNumber, noFigures, readSheet, ctnOf, clnOf}
-use Rattle.sheet.specs.Write.{sheetBytes}
-use Rattle.sheet.proofs.Sections.{counts-in}
-use Rattle.sheet.proofs.Accepted.{figures-acceptable, acceptable-figures, acceptable-fits}
-use Rattle.sheet.proofs.Points.{points-length, points-used}
-use Rattle.sheet.proofs.Cut.{sheet-cut}
-use Rattle.sheet.proofs.Glue.{Complete, sheet-glue}
-use Rattle.sheet.proofs.Judged.{bytes-judged, Faultless, faultless}
+use Rattle.sheet.specs.Places.{identitySize}
+use Rattle.sheet.specs.Judge.{_then_, figuresNumber}
+use Rattle.sheet.specs.Read.{readOld, noFigures}
+use Rattle.sheet.specs.Write.{cellBytes, sheetBytes}
+use Rattle.sheet.specs.Forms.{identityAt, identityBytes, sectionNumber, isNew, newNumber, sheetNumber, oldOf, readSheet}
+use Rattle.sheet.specs.BothForms.{InRange}
+use Rattle.sheet.proofs.Chain.{then-none}
+use Rattle.sheet.proofs.OldForm as old
+pub use Rattle.sheet.proofs.OldForm.{judged-acceptable, written-length, BytesOf, Accepted}
+use Rattle.sheet.proofs.EitherForm.{given-in, in-given, section-none, reads-old}
+use Rattle.sheet.proofs.NewForm.{new-is, new-read}
 
--- ---- the executable judgement and the declarative limits agree
+-- ---- "The writer keeps to the old sheet"
 
-pub judged-acceptable : (c : Calibration) → Representable c → (figuresNumber c ≡ 0) ↔ Acceptable c
-judged-acceptable c r = (figures-acceptable c r, acceptable-figures c r)
+pub written-old : (c : Calibration) → isNew (sheetBytes c) ≡ false
+unfolding sheetBytes cellBytes
+written-old c = refl
 
--- ---- figures judged by themselves are judged as their bytes are
-
+-- figures judged by themselves are judged as their bytes are
 pub written-judged : (c : Calibration) → Representable c → Fitting c → sheetNumber (sheetBytes c) ≡ figuresNumber c
-written-judged c r f = bytes-judged (sheetBytes c) c (sheet-cut (sheetBytes c) c r f refl)
+unfolding sheetNumber
+written-judged c r f = rw (written-old c) (old.written-judged c r f)
 
--- ---- figures written and read come back, unused points 0
-
+-- figures written and read come back, unused points 0
 pub written-read : (c : Calibration) → Representable c → Acceptable c → readSheet (sheetBytes c) ≡ record { number = 0; figures = unusedZero c }
-unfolding readSheet
-written-read c r h =
-    let k = sheet-cut (sheetBytes c) c r (acceptable-fits c r h) refl in
-    let e = bytes-judged (sheetBytes c) c k ∙ acceptable-figures c r h in
-    simp (e, k .says)
+written-read c r h = reads-old (sheetBytes c) (written-old c) ∙ old.written-read c r h
 
--- 93 + 24·CTN + 16·CLN bytes
-pub written-length : (c : Calibration) → Representable c → Fitting c → length (sheetBytes c) ≡ sheetLength c
-written-length c r f = sheet-cut (sheetBytes c) c r f refl .long
-
--- ---- an accepted sheet's figures write its own bytes
+-- ---- a sheet is read as the old sheet in it
 
 module _ (s : List ℕ) where
-  read-representable : Representable (figuresOf s)
-  unfolding figuresOf temperatureAt linearityAt
-  read-representable = record { five = points-length noTemperature temperaturePointAt 24 5 s 34 (min (ctnOf s) 5); seven = points-length noLinearity linearityPointAt 16 7 s (linearityStart (ctnOf s) + 1) (min (clnOf s) 7) }
+  read-by : (new : Bool) → isNew s ≡ new → readSheet s .number ≡ 0 → readSheet s ≡ readOld (oldOf s)
+  unfolding readSheet sheetNumber newNumber oldOf readOld
+  read-by true e h = let z = then-none {a = sectionNumber s} (rw e at h) in rw (e, z .0)
+  read-by false e h = rw e
 
-  read-unused : unusedZero (figuresOf s) ≡ figuresOf s
-  unfolding figuresOf temperatureAt linearityAt unusedZero
-  read-unused = simp (points-used noTemperature temperaturePointAt 24 5 s 34 (ctnOf s), points-used noLinearity linearityPointAt 16 7 s (linearityStart (ctnOf s) + 1) (clnOf s))
+  pub read-old : readSheet s .number ≡ 0 → readSheet s ≡ readOld (oldOf s)
+  read-old = read-by (isNew s) refl
 
-  complete : (b : Bytes s) → Faultless s → Complete s b
-  unfolding figuresOf temperatureAt linearityAt
-  complete b f =
-      let k = counts-in (figuresOf s) (f .figures-none) in
-      record { cell-count = f .cell-count; temperature-count = k .0; linearity-count = k .1; system-count = f .system-count; filter-count = f .filter-count; long = f .long }
+  old-none : readSheet s .number ≡ 0 → readOld (oldOf s) .number ≡ 0
+  old-none h = sym (ap (λ (r : Sheet). r .number) (read-old h)) ∙ h
 
-  pub read-written : Bytes s → readSheet s .number ≡ 0 → sheetBytes (readSheet s .figures) ≡ s
+  old-bytes-by : (new : Bool) → isNew s ≡ new → Bytes s → Bytes (oldOf s)
+  unfolding oldOf
+  old-bytes-by true e b = rw e (λ i. rw getD-drop (b (identitySize + i)))
+  old-bytes-by false e b = rw e b
+
+  old-bytes : Bytes s → Bytes (oldOf s)
+  old-bytes = old-bytes-by (isNew s) refl
+
+  -- what an accepted sheet gives
+  pub read-accepted : readSheet s .number ≡ 0 → Accepted (readSheet s .figures)
+  read-accepted h = subst (λ (r : Sheet). Accepted (r .figures)) (sym (read-old h)) (old.read-accepted (oldOf s) (old-none h))
+
+  -- an accepted sheet's figures write the old sheet in it
+  pub read-written : Bytes s → readSheet s .number ≡ 0 → sheetBytes (readSheet s .figures) ≡ oldOf s
+  read-written b h = ap (λ (r : Sheet). sheetBytes (r .figures)) (read-old h) ∙ old.read-written (oldOf s) (old-bytes b) (old-none h)
+
+  -- beside a refusal all figures are 0
+  pub refused-zeros : (readSheet s .number ≡ 0 → ⊥) → readSheet s .figures ≡ noFigures
   unfolding readSheet
-  read-written b h = simp h (sheet-glue s b (complete b (faultless s h)))
+  refused-zeros h = simp (ne-eqb _ 0 h)
 
--- ---- a sheet is accepted if and only if it is the bytes of acceptable figures
+  same-by : (new : Bool) → isNew s ≡ new → countAt s 0 ≡ 4 → oldOf s ≡ s
+  unfolding oldOf
+  same-by true e h = absurd (omega (arith, h, eqb-true (countAt s 0) 2 e))
+  same-by false e h = rw e
 
-pub record BytesOf (s : List ℕ) : Type 0 where
-  pub figures : Calibration
-  pub representable : Representable figures
-  pub acceptable : Acceptable figures
-  pub are : s ≡ sheetBytes figures
+  -- "so only old sheets write back to their bytes"
+  pub writes-back : Bytes s → readSheet s .number ≡ 0 → (sheetBytes (readSheet s .figures) ≡ s) ↔ (countAt s 0 ≡ 4)
+  unfolding sheetBytes cellBytes
+  writes-back b h = (λ e. ap (λ (x : List ℕ). countAt x 0) (sym e), λ e. read-written b h ∙ same-by (isNew s) refl e)
 
-pub accepted : (s : List ℕ) → Bytes s → (readSheet s .number ≡ 0) ↔ BytesOf s
-unfolding readSheet
-accepted s b = (
-  λ h. let f = faultless s h in
-      let r = read-representable s in
-      record { figures = figuresOf s; representable = r; acceptable = figures-acceptable (figuresOf s) r (f .figures-none); are = sym (sheet-glue s b (complete s b f)) },
-  λ f. ap (λ (x : List ℕ). readSheet x .number) (f .are) ∙ ap (λ (x : Sheet). x .number) (written-read (f .figures) (f .representable) (f .acceptable)),
-)
+-- ---- a sheet is accepted if and only if it is the bytes of acceptable figures, by themselves or behind those of an identity in range
 
--- what an accepted sheet gives: five and seven points, within all limits, unused points 0
-pub record Accepted (c : Calibration) : Type 0 where
-  pub representable : Representable c
-  pub acceptable : Acceptable c
-  pub unused : unusedZero c ≡ c
+pub record NewBytesOf (s : List ℕ) : Type 0 where
+  pub identity : Identity
+  pub in-range : InRange identity
+  pub old-sheet : List ℕ
+  pub of-figures : BytesOf old-sheet
+  pub are : s ≡ identityBytes identity ++ old-sheet
 
-pub read-accepted : (s : List ℕ) → readSheet s .number ≡ 0 → Accepted (readSheet s .figures)
-unfolding readSheet
-read-accepted s h =
-    simp h (record { representable = read-representable s; acceptable = figures-acceptable (figuresOf s) (read-representable s) (faultless s h .figures-none); unused = read-unused s })
+module _ (s : List ℕ) (b : Bytes s) where
+  bytes-by : (new : Bool) → isNew s ≡ new → readSheet s .number ≡ 0 → BytesOf s ⊎ NewBytesOf s
+  unfolding readSheet sheetNumber newNumber readOld
+  bytes-by true e h =
+      let z = then-none {a = sectionNumber s} (rw e at h) in
+      inr (record {
+        identity = identityAt s;
+        in-range = given-in (identityAt s) (section-none s (z .0) .given);
+        old-sheet = drop identitySize s;
+        of-figures = old.accepted (drop identitySize s) (λ i. rw getD-drop (b (identitySize + i))) .0 (z .1);
+        are = sym (new-is s b (z .0));
+      })
+  bytes-by false e h = inl (old.accepted s b .0 (rw e at h))
 
--- ---- beside a refusal all figures are 0
+  from-old : BytesOf s → readSheet s .number ≡ 0
+  from-old f = ap (λ (x : List ℕ). readSheet x .number) (f .are) ∙ ap (λ (x : Sheet). x .number) (written-read (f .figures) (f .representable) (f .acceptable))
 
-pub refused-zeros : (s : List ℕ) → (readSheet s .number ≡ 0 → ⊥) → readSheet s .figures ≡ noFigures
-unfolding readSheet
-refused-zeros s h = simp (ne-eqb _ 0 h)
+  from-new : NewBytesOf s → readSheet s .number ≡ 0
+  from-new f =
+      let g = f .of-figures in
+      ap (λ (x : List ℕ). readSheet x .number) (f .are)
+      ∙ ap (λ (x : Sheet). x .number) (new-read (f .identity) (f .old-sheet) (in-given (f .identity) (f .in-range)))
+      ∙ ap (λ (x : List ℕ). readOld x .number) (g .are)
+      ∙ ap (λ (x : Sheet). x .number) (old.written-read (g .figures) (g .representable) (g .acceptable))
+
+  pub accepted : (readSheet s .number ≡ 0) ↔ (BytesOf s ⊎ NewBytesOf s)
+  accepted = (bytes-by (isNew s) refl, ⊎-elim from-old from-new)

@@ -3,6 +3,8 @@ pub mod Places
 pub mod Judge
 pub mod Read
 pub mod Write
+pub mod Forms
+pub mod BothForms
 pub mod DefaultBytes
 pub mod Step
 pub mod CursorGoes

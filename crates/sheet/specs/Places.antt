@@ -41,3 +41,8 @@ sheetEnd ctn cln = filterStart ctn cln + filterSize
 -- the bytes that figures take
 abbrev pub sheetLength : Calibration → ℕ
 sheetLength c = sheetEnd (c .temperature .ctn) (c .linearity .cln)
+
+-- ---- the section in front of the new form's five (02, Change 6): a count and two figures
+
+abbrev pub identitySize : ℕ
+identitySize = 1 + 2 * 8

@@ -1,4 +1,5 @@
--- Reading a sheet: the figures that stand at their places, and the number of the sheet's first fault.
+-- Reading a sheet of the old form, that of 01: the figures that stand at their places, and the number of the sheet's first fault. The
+-- new form, and what is read of either, are in `Forms.antt`.
 use mathlib.Core.Bool.{cond}
 use mathlib.Core.List.{List}
 use Prim.Native.Nat.{ℕ, zero, suc, _+_, _*_, min}
@@ -66,8 +67,8 @@ figuresOf s = record {
 }
 
 -- the five sections, and "7 last"
-unfoldable pub sheetNumber : List ℕ → ℕ
-sheetNumber s =
+unfoldable pub oldNumber : List ℕ → ℕ
+oldNumber s =
     sectionsNumber (shortOf (length s)) (countAt s 0) (countAt s (systemStart (ctnOf s) (clnOf s))) (countAt s (filterStart (ctnOf s) (clnOf s))) (figuresOf s)
     then trailing (length s) (sheetEnd (ctnOf s) (clnOf s))
 
@@ -82,5 +83,5 @@ noFigures = record {
 }
 
 -- number 0 and the figures; or the number of the first fault and zeros
-unfoldable pub readSheet : List ℕ → Sheet
-readSheet s = record { number = sheetNumber s; figures = cond (eqb (sheetNumber s) 0) (figuresOf s) noFigures }
+unfoldable pub readOld : List ℕ → Sheet
+readOld s = record { number = oldNumber s; figures = cond (eqb (oldNumber s) 0) (figuresOf s) noFigures }

@@ -27,7 +27,7 @@ pub fn first(a: u8, b: u8) -> u8
     b
 }
 
-fn count_number(room: usize, at: usize, least: u8, most: u8, count: u8) -> u8
+pub fn count_number(room: usize, at: usize, least: u8, most: u8, count: u8) -> u8
     requires { ⌜ at < 2 ^ 32 ⌝ }
     ensures { λ r. ⌜ r ≡ countNumber (shortOf room) at least most count ⌝ }
 {
@@ -43,7 +43,7 @@ fn count_number(room: usize, at: usize, least: u8, most: u8, count: u8) -> u8
     0
 }
 
-fn range_number(room: usize, at: usize, least: i64, most: i64, v: i64) -> u8
+pub fn range_number(room: usize, at: usize, least: i64, most: i64, v: i64) -> u8
     requires { ⌜ at < 2 ^ 32 ⌝ }
     ensures { λ r. ⌜ r ≡ rangeNumber (shortOf room) at least most v ⌝ }
 {

@@ -1,8 +1,10 @@
-// The calibration sheet (01, "The calibration sheet"): bytes to figures, and the judgement of figures. `sheet_writer` writes one.
+// The calibration sheet (01, "The calibration sheet"; 02, Change 6): bytes to figures, and the judgement of figures. `sheet_writer`
+// writes one.
 ghost use mathlib.Core.Path.{_≡_};
 ghost use Rattle.sheet.specs.Step.{started, countStep, figureStep};
 
 mod bytes;
+mod forms;
 mod judgement;
 pub mod places;
 mod reading;
@@ -10,15 +12,37 @@ mod reading;
 use bytes::next_count;
 use bytes::next_figure;
 use figures::Calibration;
+pub use forms::identity_at;
+pub use forms::judge_identity;
+pub use forms::judge_new;
+pub use forms::judge_old;
+pub use forms::read;
+pub use forms::read_contents;
 pub use judgement::judge;
 pub use judgement::sheet_length;
 pub use reading::no_figures;
-pub use reading::read;
 
 // What a sheet says, and 0; or the number of its first fault, and zeros.
 #[repr(C)]
 pub struct Sheet {
     pub number: u8,
+    pub figures: Calibration,
+}
+
+// What marks one sheet (02, Change 6): its serial number, and its day, in days after 1 January 2000.
+#[repr(C)]
+pub struct Identity {
+    pub serial: i64,
+    pub day: i64,
+}
+
+// What a sheet of either form says, and 0; or the number of its first fault, and zeros. The form is the first count, 4 for the old
+// one, which has no identity, and 2 for the new.
+#[repr(C)]
+pub struct Contents {
+    pub number: u8,
+    pub form: u8,
+    pub identity: Identity,
     pub figures: Calibration,
 }
 

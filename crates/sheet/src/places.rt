@@ -13,6 +13,9 @@ pub const SYSTEM_SIZE: usize = 1 + 5 * 8;
 // A count and two.
 pub const FILTER_SIZE: usize = 1 + 2 * 8;
 
+// The section in front of the new form's five (02, Change 6): a count and two.
+pub const IDENTITY_SIZE: usize = 1 + 2 * 8;
+
 // CT, CTO and CTG.
 pub const TEMPERATURE_POINT_SIZE: usize = 3 * 8;
 

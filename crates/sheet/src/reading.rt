@@ -1,9 +1,9 @@
-// Reading a sheet: the figures that stand at their places, and the judgement of them.
+// Reading a sheet of the old form: the figures that stand at their places, and the judgement of them.
 ghost use mathlib.Core.Path.{_≡_};
 ghost use Prim.Native.Nat.{_+_, _*_, _≤_, _<_, _^_, min};
 ghost use Rattle.figures.specs.Unused.{noLinearity, noTemperature};
 ghost use Rattle.sheet.specs.Places.{temperaturePointSize, linearityPointSize};
-ghost use Rattle.sheet.specs.Read.{cellAt, temperaturePointAt, linearityPointAt, pointsAt, temperatureAt, linearityAt, systemAt, filterAt, ctnOf, clnOf, figuresOf, sheetNumber, noFigures, readSheet};
+ghost use Rattle.sheet.specs.Read.{cellAt, temperaturePointAt, linearityPointAt, pointsAt, temperatureAt, linearityAt, systemAt, filterAt, ctnOf, clnOf, figuresOf, oldNumber, noFigures, readOld};
 use crate::Sheet;
 use crate::bytes::count_at;
 use crate::bytes::figure_at;
@@ -175,9 +175,9 @@ fn figures_of(s: &[u8]) -> Calibration
 }
 
 // The number of the first fault, given the figures that stand in the sheet.
-fn sheet_number(s: &[u8], figures: Calibration) -> u8
+fn old_number(s: &[u8], figures: Calibration) -> u8
     requires { ⌜ figures ≡ figuresOf (now s) ⌝ }
-    ensures { λ r. ⌜ r ≡ sheetNumber (now (s .entry)) ⌝ }
+    ensures { λ r. ⌜ r ≡ oldNumber (now (s .entry)) ⌝ }
 {
     let ctn = ctn_of(s);
     let cln = cln_of(s);
@@ -236,12 +236,12 @@ pub fn no_figures() -> Calibration
     }
 }
 
-// Reads a sheet: its figures, or the number of its first fault and zeros.
-pub fn read(sheet: &[u8]) -> Sheet
-    ensures { λ r. ⌜ r ≡ readSheet (now (sheet .entry)) ⌝ }
+// Reads an old sheet: its figures, or the number of its first fault and zeros.
+pub fn read_old(sheet: &[u8]) -> Sheet
+    ensures { λ r. ⌜ r ≡ readOld (now (sheet .entry)) ⌝ }
 {
     let figures = figures_of(sheet);
-    let number = sheet_number(sheet, figures);
+    let number = old_number(sheet, figures);
     if number != 0 {
         let none = no_figures();
         return Sheet {

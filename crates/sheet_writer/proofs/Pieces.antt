@@ -1,15 +1,15 @@
 -- Pieces of a buffer that are written one behind the other, and the writer's three answers. Assumes nothing.
-use mathlib.Core.Path.{_≡_, refl, sym, _∙_, ap}
+use mathlib.Core.Path.{_≡_, refl, _∙_, ap}
 use mathlib.Core.Bool.{cond}
 use mathlib.Core.List.{List, [], _∷_, _++_}
 use Prim.Native.Nat.{ℕ, _+_, _≤_, _<_}
 use native.Mathlib.Omega.{arith}
 use native.Mathlib.Numerals.{add-one}
 use lib.ListN.{length, getD, drop, set, length-set}
-use lib.Seq.{sets-eq}
 use lib.Dec.{ltb}
 use borrow.Author.Tests.{lt-ltb, le-ltb, ne-eqb}
 use Rattle.integers.specs.Bytes.{Put}
+use Rattle.integers.proofs.Puts.{at-front}
 use Rattle.figures.specs.declared.Calibration.{Calibration}
 use Rattle.sheet_writer.specs.declared.Written.{Written}
 use Rattle.sheet.specs.Places.{sheetLength}
@@ -44,4 +44,6 @@ module _ (c : Calibration) (out : List ℕ) where
   pub done : (new : List ℕ) → figuresNumber c ≡ 0 → sheetLength c ≤ length out → Put (sheetBytes c) out 0 new (sheetLength c)
       → (_≡_ {A = Written} (record { number = 0; length = sheetLength c }) (writtenOf c out)) × (new ≡ outAfter c out)
   unfolding writtenOf outAfter writeNumber
-  done new e h p = (rw (e, le-ltb _ _ h), rw (e, le-ltb _ _ h) (p .is ∙ sets-eq (sheetBytes c) out 0 (omega (arith, p .next)) ∙ ap (λ (n : ℕ). sheetBytes c ++ drop n out) (sym (p .next))))
+  done new e h p =
+      let long : length (sheetBytes c) ≡ sheetLength c = omega (arith, p .next) in
+      (rw (e, le-ltb _ _ h), rw (e, le-ltb _ _ h) (at-front p ∙ ap (λ (n : ℕ). sheetBytes c ++ drop n out) long))

@@ -10,7 +10,7 @@ use Rattle.figures.specs.Representable.{Representable}
 use Rattle.figures.specs.Unused.{unusedZero}
 use Rattle.figures.specs.declared.Calibration.{Calibration}
 use Rattle.sheet.specs.Places.{sheetLength}
-use Rattle.sheet.specs.Read.{readSheet}
+use Rattle.sheet.specs.Forms.{readSheet}
 use Rattle.sheet.specs.Write.{sheetBytes}
 use Rattle.sheet.proofs.Accepted.{acceptable-figures, acceptable-fits}
 use Rattle.sheet.proofs.Theorems.{written-length, written-read}

@@ -7,7 +7,7 @@ use lib.ListN.{length, take, drop}
 use Rattle.figures.specs.Acceptable.{Acceptable}
 use Rattle.figures.specs.Representable.{Representable, Fitting}
 use Rattle.figures.specs.declared.Calibration.{Calibration}
-use Rattle.sheet.specs.Read.{sheetNumber}
+use Rattle.sheet.specs.Forms.{sheetNumber}
 use Rattle.sheet.specs.Write.{sheetBytes}
 use Rattle.sheet_writer.specs.Write.{writtenOf, outAfter}
 use Rattle.sheet_writer.specs.declared.Written.{Written}

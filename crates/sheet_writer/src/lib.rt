@@ -31,7 +31,7 @@ pub struct Written {
     pub length: usize,
 }
 
-fn put_figure(out: &mut [u8], at: usize, v: i64)
+pub fn put_figure(out: &mut [u8], at: usize, v: i64)
     requires { ⌜ at + 8 ≤ length (now out) ⌝ }
     ensures { λ _. ⌜ Put (figureBytes v) (now (out .entry)) at (now (out .exit)) (at + 8) ⌝ }
 {

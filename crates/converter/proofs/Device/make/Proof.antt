@@ -7,7 +7,7 @@ use denote.Ref.{now}
 use lib.Dec.{eqb}
 use borrow.Author.Needs.{needs}
 use borrow.Author.Tests.{eq-eqb, eqb-true, ne-eqb, not-true, not-false}
-use Rattle.sheet.specs.Read.{readSheet}
+use Rattle.sheet.specs.Forms.{readSheet}
 use Rattle.sheet.proofs.Theorems.{read-accepted}
 use Rattle.sheet.specs.declared.Sheet.{Sheet}
 use Rattle.state.specs.Request.{fresh}

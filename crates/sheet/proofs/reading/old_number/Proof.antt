@@ -5,13 +5,13 @@ use Rattle.sheet.proofs.Chain.{pass, stop}
 use Rattle.sheet.specs.Bytes.{countAt}
 use Rattle.sheet.specs.Places.{systemStart, filterStart, sheetEnd}
 use Rattle.sheet.specs.Judge.{sectionsNumber, shortOf, trailing}
-use Rattle.sheet.specs.Read.{figuresOf, sheetNumber, ctnOf, clnOf}
+use Rattle.sheet.specs.Read.{figuresOf, oldNumber, ctnOf, clnOf}
 use borrow.Author.Tests.{le-ltb, lt-ltb}
 use lib.ListN.{length}
 use mathlib.Core.Path.{_≡_, sym}
 use borrow.Author.Needs.{needs}
-use Rattle.sheet.proofs.reading.sheet_number.Statement.{statement}
-use Rattle.sheet.proofs.reading.sheet_number.Tie as tie
+use Rattle.sheet.proofs.reading.old_number.Statement.{statement}
+use Rattle.sheet.proofs.reading.old_number.Tie as tie
 
 module _ (c : tie.After-sections-number) where
   abbrev s : List ℕ
@@ -27,7 +27,7 @@ module _ (c : tie.After-sections-number) where
       rw (c .before .before .before .before .before .count-at .ensures, b, d, c .before .before .before .before .before .before .before .before .before .pre) at (c .sections-number .ensures)
 
 returns : tie.Need-returns
-unfolding sheetNumber
+unfolding oldNumber
 returns c = stop _ (sections (c .before)) (c .if1 .taken)
 
 ends : (c : tie.After-sheet-end) → c .sheet-end .result ≡ sheetEnd (ctnOf (s (c .before .before))) (clnOf (s (c .before .before)))
@@ -36,15 +36,15 @@ ends c =
     rw (counts .cln-of .ensures, counts .before .ctn-of .ensures) at (c .sheet-end .ensures .0)
 
 returns-2 : tie.Need-returns-2
-unfolding sheetNumber trailing
+unfolding oldNumber trailing
 returns-2 c = pass (sections (c .before .before .before)) (c .before .before .if1 .left) (sym (simp (lt-ltb _ _ (rw (ends (c .before)) at (c .if2 .taken)))))
 
 returns-3 : tie.Need-returns-3
-unfolding sheetNumber trailing
+unfolding oldNumber trailing
 returns-3 c = pass (sections (c .before .before .before)) (c .before .before .if1 .left) (sym (simp (le-ltb _ _ (rw (ends (c .before)) at (c .if2 .left)))))
 
-pub sheet-number-spec : {M : Type 1} → statement M
-sheet-number-spec =
+pub old-number-spec : {M : Type 1} → statement M
+old-number-spec =
     tie.close
     (tie.spec (λ c κs. search needs) (λ c κs. search needs) (λ c κs. search needs) (λ c κs. search needs) (λ c κs. search needs)
     (λ c κs. search needs) (λ c κs. search needs) (λ c κs. search needs) returns (λ c κs. search needs) returns-2 returns-3)

@@ -1,0 +1,5 @@
+mod Fits
+mod Answers
+mod Told
+pub mod Moving
+pub mod RoundTrip

@@ -1,0 +1,128 @@
+// The moves between the two forms of a sheet (02, Change 6), over a lent output and a lent scratch buffer.
+ghost use mathlib.Core.Path.{_≡_};
+ghost use Prim.Native.Nat.{_+_, _≤_};
+ghost use lib.ListN.{length};
+ghost use Rattle.integers.specs.Bytes.{Put};
+ghost use Rattle.sheet.specs.Places.{identitySize};
+ghost use Rattle.sheet.specs.Forms.{identityBytes};
+ghost use Rattle.laboratory.specs.Moves.{toNew, toOld, front, buffersNumber, toNewNumber, toOldNumber, MovedToNew, MovedToOld};
+use sheet::Identity;
+use sheet::places;
+use sheet_writer::Written;
+use sheet_writer::put_figure;
+
+const SCRATCH_LEAST: usize = 342;
+
+// 0, the bytes written and the identity beside them; or the number of the refusal, and zeros.
+#[repr(C)]
+pub struct MovedBack {
+    pub number: u8,
+    pub length: usize,
+    pub identity: Identity,
+}
+
+// 19, where the output has no room for what is to be written, or the scratch is too short; or 0.
+fn buffers_number(written: usize, out: usize, scratch: usize) -> u8
+    ensures { λ r. ⌜ r ≡ buffersNumber written out scratch ⌝ }
+{
+    if out < written {
+        return 19;
+    }
+    if scratch < SCRATCH_LEAST {
+        return 19;
+    }
+    0
+}
+
+// The sheet, then the identity, then the buffers.
+fn to_new_number(sheet: &[u8], identity: Identity, out: usize, scratch: usize) -> u8
+    ensures { λ r. ⌜ r ≡ toNewNumber (now (sheet .entry)) identity out scratch ⌝ }
+{
+    let judged = sheet::judge_old(sheet);
+    if judged != 0 {
+        return judged;
+    }
+    let given = sheet::judge_identity(identity);
+    if given != 0 {
+        return given;
+    }
+    buffers_number(places::IDENTITY_SIZE + sheet.len(), out, scratch)
+}
+
+// The sheet, then the buffers.
+fn to_old_number(sheet: &[u8], out: usize, scratch: usize) -> u8
+    ensures { λ r. ⌜ r ≡ toOldNumber (now (sheet .entry)) out scratch ⌝ }
+{
+    let judged = sheet::judge_new(sheet);
+    if judged != 0 {
+        return judged;
+    }
+    buffers_number(sheet.len() - places::IDENTITY_SIZE, out, scratch)
+}
+
+fn put_identity(to: &mut [u8], identity: Identity)
+    requires { ⌜ identitySize ≤ length (now to) ⌝ }
+    ensures { λ _. ⌜ Put (identityBytes identity) (now (to .entry)) 0 (now (to .exit)) identitySize ⌝ }
+{
+    to[0] = 2;
+    put_figure(to, 1, identity.serial);
+    put_figure(to, 9, identity.day);
+}
+
+// The new form of an old sheet, at the front of a buffer.
+fn put_new(to: &mut [u8], identity: Identity, sheet: &[u8])
+    requires { ⌜ identitySize + length (now sheet) ≤ length (now to) ⌝ }
+    ensures { λ _. ⌜ now (to .exit) ≡ front (toNew identity (now (sheet .entry))) (now (to .entry)) ⌝ }
+{
+    put_identity(to, identity);
+    let at = places::IDENTITY_SIZE;
+    bytes::copy(sheet, &mut to[at..]);
+}
+
+// The old sheet in a new one, at the front of a buffer.
+fn put_old(to: &mut [u8], sheet: &[u8])
+    requires { ⌜ (identitySize ≤ length (now sheet)) × (length (now sheet) ≤ identitySize + length (now to)) ⌝ }
+    ensures { λ _. ⌜ now (to .exit) ≡ front (toOld (now (sheet .entry))) (now (to .entry)) ⌝ }
+{
+    let at = places::IDENTITY_SIZE;
+    bytes::copy(&sheet[at..], to);
+}
+
+// An old sheet to the new form, with a given identity.
+pub fn to_new(sheet: &[u8], identity: Identity, out: &mut [u8], scratch: &mut [u8]) -> Written
+    ensures { λ r. ⌜ MovedToNew (now (sheet .entry)) identity (now (out .entry)) (now (out .exit)) (now (scratch .entry)) (now (scratch .exit)) r ⌝ }
+{
+    let number = to_new_number(sheet, identity, out.len(), scratch.len());
+    if number != 0 {
+        return Written { number, length: 0 };
+    }
+    put_new(out, identity, sheet);
+    put_new(scratch, identity, sheet);
+    Written {
+        number: 0,
+        length: places::IDENTITY_SIZE + sheet.len(),
+    }
+}
+
+// A new sheet back to the old form, and its identity.
+pub fn to_old(sheet: &[u8], out: &mut [u8], scratch: &mut [u8]) -> MovedBack
+    ensures { λ r. ⌜ MovedToOld (now (sheet .entry)) (now (out .entry)) (now (out .exit)) (now (scratch .entry)) (now (scratch .exit)) r ⌝ }
+{
+    let number = to_old_number(sheet, out.len(), scratch.len());
+    if number != 0 {
+        let none = Identity { serial: 0, day: 0 };
+        return MovedBack {
+            number,
+            length: 0,
+            identity: none,
+        };
+    }
+    put_old(out, sheet);
+    put_old(scratch, sheet);
+    let identity = sheet::identity_at(sheet);
+    MovedBack {
+        number: 0,
+        length: sheet.len() - places::IDENTITY_SIZE,
+        identity,
+    }
+}
