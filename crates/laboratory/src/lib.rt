@@ -18,8 +18,7 @@ use sheet_writer::Written;
 pub extern "C" fn converter_judge_sheet(sheet: &[u8]) -> u8
     ensures { λ r. ⌜ r ≡ sheetNumber (now (sheet .entry)) ⌝ }
 {
-    let read = sheet::read(sheet);
-    read.number
+    sheet::judge_sheet(sheet)
 }
 
 // Its figures, its form and its identity, and 0; or the number of its first fault, and zeros.

@@ -1,11 +1,11 @@
 // The moves between the two forms of a sheet (02, Change 6), over a lent output and a lent scratch buffer.
 ghost use mathlib.Core.Path.{_≡_};
 ghost use Prim.Native.Nat.{_+_, _≤_};
-ghost use lib.ListN.{length};
+ghost use lib.ListN.{length, take};
 ghost use Rattle.integers.specs.Bytes.{Put};
 ghost use Rattle.sheet.specs.Places.{identitySize};
 ghost use Rattle.sheet.specs.Forms.{identityBytes};
-ghost use Rattle.laboratory.specs.Moves.{toNew, toOld, front, buffersNumber, toNewNumber, toOldNumber, MovedToNew, MovedToOld};
+ghost use Rattle.laboratory.specs.Moves.{toNew, toOld, front, copyOf, buffersNumber, toNewNumber, toOldNumber, MovedToNew, MovedToOld};
 use sheet::Identity;
 use sheet::places;
 use sheet_writer::Written;
@@ -38,9 +38,9 @@ fn buffers_number(written: usize, out: usize, scratch: usize) -> u8
 fn to_new_number(sheet: &[u8], identity: Identity, out: usize, scratch: usize) -> u8
     ensures { λ r. ⌜ r ≡ toNewNumber (now (sheet .entry)) identity out scratch ⌝ }
 {
-    let judged = sheet::judge_old(sheet);
-    if judged != 0 {
-        return judged;
+    let old = sheet::judge_old(sheet);
+    if old != 0 {
+        return old;
     }
     let given = sheet::judge_identity(identity);
     if given != 0 {
@@ -53,9 +53,9 @@ fn to_new_number(sheet: &[u8], identity: Identity, out: usize, scratch: usize) -
 fn to_old_number(sheet: &[u8], out: usize, scratch: usize) -> u8
     ensures { λ r. ⌜ r ≡ toOldNumber (now (sheet .entry)) out scratch ⌝ }
 {
-    let judged = sheet::judge_new(sheet);
-    if judged != 0 {
-        return judged;
+    let new = sheet::judge_new(sheet);
+    if new != 0 {
+        return new;
     }
     buffers_number(sheet.len() - places::IDENTITY_SIZE, out, scratch)
 }
@@ -88,6 +88,14 @@ fn put_old(to: &mut [u8], sheet: &[u8])
     bytes::copy(&sheet[at..], to);
 }
 
+// A copy of the bytes written, at the front of the scratch.
+fn keep_copy(out: &[u8], written: usize, scratch: &mut [u8])
+    requires { ⌜ (written ≤ length (now out)) × (written ≤ length (now scratch)) ⌝ }
+    ensures { λ _. ⌜ now (scratch .exit) ≡ front (copyOf (take written (now (out .entry)))) (now (scratch .entry)) ⌝ }
+{
+    bytes::copy(&out[..written], scratch);
+}
+
 // An old sheet to the new form, with a given identity.
 pub fn to_new(sheet: &[u8], identity: Identity, out: &mut [u8], scratch: &mut [u8]) -> Written
     ensures { λ r. ⌜ MovedToNew (now (sheet .entry)) identity (now (out .entry)) (now (out .exit)) (now (scratch .entry)) (now (scratch .exit)) r ⌝ }
@@ -96,12 +104,10 @@ pub fn to_new(sheet: &[u8], identity: Identity, out: &mut [u8], scratch: &mut [u
     if number != 0 {
         return Written { number, length: 0 };
     }
+    let length = places::IDENTITY_SIZE + sheet.len();
     put_new(out, identity, sheet);
-    put_new(scratch, identity, sheet);
-    Written {
-        number: 0,
-        length: places::IDENTITY_SIZE + sheet.len(),
-    }
+    keep_copy(out, length, scratch);
+    Written { number: 0, length }
 }
 
 // A new sheet back to the old form, and its identity.
@@ -117,12 +123,13 @@ pub fn to_old(sheet: &[u8], out: &mut [u8], scratch: &mut [u8]) -> MovedBack
             identity: none,
         };
     }
+    let length = sheet.len() - places::IDENTITY_SIZE;
     put_old(out, sheet);
-    put_old(scratch, sheet);
+    keep_copy(out, length, scratch);
     let identity = sheet::identity_at(sheet);
     MovedBack {
         number: 0,
-        length: sheet.len() - places::IDENTITY_SIZE,
+        length,
         identity,
     }
 }

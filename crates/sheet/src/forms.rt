@@ -4,7 +4,7 @@ ghost use mathlib.Core.Bool.{cond};
 ghost use Rattle.sheet.specs.Places.{identitySize};
 ghost use Rattle.sheet.specs.Judge.{shortOf};
 ghost use Rattle.sheet.specs.Read.{oldNumber};
-ghost use Rattle.sheet.specs.Forms.{identityAt, identityNumber, givenNumber, sectionNumber, isNew, newNumber, readSheet, contentsOf};
+ghost use Rattle.sheet.specs.Forms.{identityAt, identityNumber, givenNumber, sectionNumber, isNew, newNumber, sheetNumber, readSheet, contentsOf};
 use crate::Contents;
 use crate::Identity;
 use crate::Sheet;
@@ -117,7 +117,15 @@ pub fn read(sheet: &[u8]) -> Sheet
     read_old(&sheet[start..])
 }
 
-// The same, and the form with its identity; zeros for an old sheet's, and beside a refusal.
+// The number of its first fault, or 0.
+pub fn judge_sheet(sheet: &[u8]) -> u8
+    ensures { λ r. ⌜ r ≡ sheetNumber (now (sheet .entry)) ⌝ }
+{
+    let read = read(sheet);
+    read.number
+}
+
+// What is read, and the form with its identity; zeros for an old sheet's, and beside a refusal.
 pub fn read_contents(sheet: &[u8]) -> Contents
     ensures { λ r. ⌜ r ≡ contentsOf (now (sheet .entry)) ⌝ }
 {

@@ -16,6 +16,7 @@ pub use forms::identity_at;
 pub use forms::judge_identity;
 pub use forms::judge_new;
 pub use forms::judge_old;
+pub use forms::judge_sheet;
 pub use forms::read;
 pub use forms::read_contents;
 pub use judgement::judge;

@@ -1,18 +1,11 @@
 -- The old sheet is copied to the front. Assumes nothing.
-use mathlib.Core.Path.{_≡_, _∙_}
-use mathlib.Core.List.{List, _++_}
-use Prim.Native.Nat.{ℕ}
-use lib.ListN.{length, take, drop}
-use lib.Seq.{take-length}
+use mathlib.Core.Path.{_∙_}
 use Rattle.sheet.specs.Places.{identitySize}
 use Rattle.sheet.proofs.EitherForm.{rest}
-use Rattle.laboratory.specs.Moves.{front}
+use Rattle.laboratory.proofs.Answers.{copied-front}
 use borrow.Author.Needs.{needs}
 use Rattle.laboratory.proofs.moves.put_old.Statement.{statement}
 use Rattle.laboratory.proofs.moves.put_old.Tie as tie
-
-copied-front : (part text to : List ℕ) → part ≡ text → take (length part) part ++ drop (length part) to ≡ front text to
-copied-front part text to e = rw (e, take-length)
 
 returns : tie.Need-returns
 returns c =

@@ -1,5 +1,6 @@
 -- The number, then both buffers, and the identity. Assumes nothing.
 use mathlib.Core.Path.{sym, _∙_}
+use native.Mathlib.Omega.{arith}
 use lib.ListN.{length}
 use borrow.Author.Needs.{needs}
 use Rattle.laboratory.proofs.Fits.{FitsOld, fits-old}
@@ -18,20 +19,17 @@ module _ (c : tie.Else1) where
 put-old-requires : tie.Need-put-old-requires
 put-old-requires c κs = let f = fits (c .before) in (f .long, f .in-out)
 
-put-old-requires-2 : tie.Need-put-old-requires-2
-put-old-requires-2 c κs = let f = fits (c .before .before .before .before .before) in (f .long, f .in-scratch)
-
-sub-t8 : tie.Need-sub-t8
-sub-t8 c = fits (c .before .before .before .before .before .before .before .before .before) .long
+keep-copy-requires : tie.Need-keep-copy-requires
+keep-copy-requires c κs = let f = fits (c .before .before .before .before .before .before) in (omega (arith, f .in-out, c .before .before .before .before .put-old .kept .0), omega (arith, f .in-scratch))
 
 returns-2 : tie.Need-returns-2
 returns-2 c =
-    let e = c .before .before .before .before .before .before .before .before .before in
+    let e = c .before .before .before .before .before .before .before .before .before .before in
     let a = e .before .before .before .before .before .args in
     rw (c .identity-at .ensures)
-    (old-done (a .sheet .now) (a .out .now) (a .scratch .now) (sym (e .before .to-old-number .ensures) ∙ e .if1 .left) (c .before .before .before .before .before .before .before .put-old .ensures) (c .before .before .before .put-old2 .ensures))
+    (old-done (a .sheet .now) (a .out .now) (a .scratch .now) (sym (e .before .to-old-number .ensures) ∙ e .if1 .left) (c .before .before .before .before .before .before .before .before .put-old .ensures) (c .before .before .before .keep-copy .ensures))
 
 pub to-old-spec : {M : Type 1} → statement M
 to-old-spec =
     tie.close
-    (tie.spec (λ c κs. search needs) returns put-old-requires put-old-requires-2 (λ c κs. search needs) sub-t8 (λ c. search needs) (λ c. search needs) returns-2)
+    (tie.spec (λ c κs. search needs) returns (λ c. fits c .long) put-old-requires keep-copy-requires (λ c κs. search needs) (λ c. search needs) (λ c. search needs) returns-2)
