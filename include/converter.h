@@ -43,24 +43,25 @@ extern "C" {
 
 /* Numbers of refusal; 0 is an accepted call. */
 enum {
-    CONVERTER_SHORT_SHEET = 1,    /* it ends before a count or figure that is due */
-    CONVERTER_WRONG_COUNT = 2,    /* a section's count is not the table's */
-    CONVERTER_FIGURE = 3,         /* a figure is beyond its range */
-    CONVERTER_ORDER = 4,          /* CT or CLX not above the one before */
-    CONVERTER_TOO_STEEP = 5,      /* the CLK rule broken */
-    CONVERTER_CROSSED = 6,        /* CMIN not below CMAX, or SMIN not below SMAX */
-    CONVERTER_TRAILING = 7,       /* bytes after the last section */
-    CONVERTER_STATION = 8,        /* not 1 to 247 */
-    CONVERTER_BAD_READING = 9,    /* ELEC, TEMP or the integrity byte beyond its range */
-    CONVERTER_NO_READING = 10,    /* before the first reading since start or RST */
-    CONVERTER_NO_SNAPSHOT = 11,   /* SYSN read with none taken */
-    CONVERTER_SHORT_BUFFER = 12,  /* reply buffer under 9 bytes */
-    CONVERTER_NOT_FOR_US = 13,    /* too short or long, wrong checksum, other station, or a broadcast read */
-    CONVERTER_FUNCTION = 14,      /* not 3 or 16 */
-    CONVERTER_ADDRESS = 15,       /* odd, or not twice a listed register */
-    CONVERTER_VALUE = 16,         /* wrong length, quantity or byte count, read-only, or an unfit value */
-    CONVERTER_UNFIT_COPY = 17,    /* a sheet with the figures of the waiting copy would be refused */
-    CONVERTER_CORNER_REFUSED = 18 /* any of a platform's four readings would be 9 */
+    CONVERTER_SHORT_SHEET = 1,     /* it ends before a count or figure that is due */
+    CONVERTER_WRONG_COUNT = 2,     /* a section's count is not the table's */
+    CONVERTER_FIGURE = 3,          /* a figure is beyond its range */
+    CONVERTER_ORDER = 4,           /* CT or CLX not above the one before */
+    CONVERTER_TOO_STEEP = 5,       /* the CLK rule broken */
+    CONVERTER_CROSSED = 6,         /* CMIN not below CMAX, or SMIN not below SMAX */
+    CONVERTER_TRAILING = 7,        /* bytes after the last section */
+    CONVERTER_STATION = 8,         /* not 1 to 247 */
+    CONVERTER_BAD_READING = 9,     /* ELEC, TEMP or the integrity byte beyond its range */
+    CONVERTER_NO_READING = 10,     /* before the first reading since start or RST */
+    CONVERTER_NO_SNAPSHOT = 11,    /* SYSN read with none taken */
+    CONVERTER_SHORT_BUFFER = 12,   /* reply buffer under 9 bytes, or a sheet's output too short */
+    CONVERTER_NOT_FOR_US = 13,     /* too short or long, wrong checksum, other station, or a broadcast read */
+    CONVERTER_FUNCTION = 14,       /* not 3 or 16 */
+    CONVERTER_ADDRESS = 15,        /* odd, or not twice a listed register */
+    CONVERTER_VALUE = 16,          /* wrong length, quantity or byte count, read-only, or an unfit value */
+    CONVERTER_UNFIT_COPY = 17,     /* a sheet with the figures of the waiting copy would be refused */
+    CONVERTER_CORNER_REFUSED = 18, /* any of a platform's four readings would be 9 */
+    CONVERTER_BUFFERS = 19         /* of a move: output or scratch too short */
 };
 
 /* Registers, as wire addresses: what stands in a frame, twice 004's register number. Of a table's column it is the

@@ -18,7 +18,7 @@ pub mod served;
 pub mod simulator;
 pub mod tool;
 
-pub use model::Converter;
+pub use model::{Converter, Laboratory};
 
 use model::panel::ROWS;
 
@@ -32,6 +32,9 @@ pub const WITH_ARCHIVE: bool = cfg!(feature = "archive");
 
 /// What a lent buffer holds before a call.
 pub const FILL: u8 = 0xa5;
+
+/// What a lent scratch buffer holds before a call.
+pub const FILL_SCRATCH: u8 = 0x5c;
 
 /// The register numbers of paper 01.
 pub const REGISTERS: [u16; 16] = [6, 9, 10, 11, 12, 13, 14, 15, 16, 22, 23, 24, 25, 100, 103, 104];

@@ -5,7 +5,7 @@ pub fn meaning(number: u8) -> &'static str {
     match number {
         0 => "accepted",
         1 => "short sheet: it ends before a count or figure that is due",
-        2 => "wrong count: a section's count is not the table's",
+        2 => "wrong count: a section's count is not the table's, or a move's sheet has the other form",
         3 => "figure: one is beyond its range",
         4 => "order: CT or CLX is not above the one before",
         5 => "too steep: CLK changes by more than a quarter of CLX between two points",
@@ -22,6 +22,7 @@ pub fn meaning(number: u8) -> &'static str {
         16 => "value: length, quantity, byte count, a read-only register, or an unfit value",
         17 => "unfit copy: a sheet with the figures of the waiting copy would be refused",
         18 => "corner refused: one of the four readings would be 9, bad reading",
+        19 => "buffers: the output or the scratch is too short",
         _ => "no such number",
     }
 }

@@ -1,5 +1,5 @@
-//! The load cell converter of paper 01, with Changes 1, 2, 4 and 5 of paper 02, in plain Rust, written from the
-//! papers alone.
+//! The load cell converter of paper 01, with Changes 1, 2, 4, 5 and 6 of paper 02, in plain Rust, written from
+//! the papers alone.
 //!
 //! Whole numbers are steps (1/65,536 of a unit) and gains (1/2^28) in `i64`; the widest product,
 //! (CELL - SOFS) x SGAI, is at most 4,259,840,000 x 2^31, which fits. Nothing here uses the heap.
@@ -15,7 +15,7 @@ pub mod value;
 pub use bus::crc16;
 pub use device::{Device, Reading};
 pub use platform::{weigh, Sample, Weights};
-pub use sheet::Figures;
+pub use sheet::{Contents, Figures, Identity};
 
 /// Why a call was turned down, by the papers' numbers.
 #[derive(Clone, Copy, Debug, PartialEq, Eq)]
@@ -39,6 +39,7 @@ pub enum Refusal {
     Value = 16,
     UnfitCopy = 17,
     CornerRefused = 18,
+    Buffers = 19,
 }
 
 pub type Result<T> = core::result::Result<T, Refusal>;
@@ -64,6 +65,19 @@ pub trait Converter: Clone + PartialEq + Default {
     fn weigh(corners: [&mut Self; 4], samples: [Sample; 4]) -> (u8, Weights);
     /// The record in the model's form; what the paper leaves free is left out.
     fn state(&self) -> Device;
+}
+
+/// What a laboratory is offered: calls on sheets, for which no device is needed.
+pub trait Laboratory {
+    fn judge_sheet(sheet: &[u8]) -> u8;
+    /// The number, and what the sheet holds; zeros beside a refusal.
+    fn read_sheet(sheet: &[u8]) -> (u8, Contents);
+    /// The number and the length written.
+    fn write_sheet(figures: &Figures, out: &mut [u8]) -> (u8, usize);
+    /// The number and the length written.
+    fn move_to_new(sheet: &[u8], identity: Identity, out: &mut [u8], scratch: &mut [u8]) -> (u8, usize);
+    /// The number, the length written and the identity.
+    fn move_to_old(sheet: &[u8], out: &mut [u8], scratch: &mut [u8]) -> (u8, usize, Identity);
 }
 
 impl Converter for Device {
@@ -94,6 +108,33 @@ impl Converter for Device {
 
     fn state(&self) -> Device {
         *self
+    }
+}
+
+impl Laboratory for Device {
+    fn judge_sheet(sheet: &[u8]) -> u8 {
+        number(&sheet::read(sheet))
+    }
+
+    fn read_sheet(sheet: &[u8]) -> (u8, Contents) {
+        let read = sheet::read(sheet);
+        (number(&read), read.unwrap_or_default())
+    }
+
+    fn write_sheet(figures: &Figures, out: &mut [u8]) -> (u8, usize) {
+        let written = sheet::write(figures, out);
+        (number(&written), written.unwrap_or_default())
+    }
+
+    fn move_to_new(sheet: &[u8], identity: Identity, out: &mut [u8], scratch: &mut [u8]) -> (u8, usize) {
+        let moved = sheet::to_new(sheet, identity, out, scratch);
+        (number(&moved), moved.unwrap_or_default())
+    }
+
+    fn move_to_old(sheet: &[u8], out: &mut [u8], scratch: &mut [u8]) -> (u8, usize, Identity) {
+        let moved = sheet::to_old(sheet, out, scratch);
+        let (length, identity) = moved.unwrap_or_default();
+        (number(&moved), length, identity)
     }
 }
 

@@ -1,4 +1,4 @@
-//! The calibration sheet: reading, judging and writing.
+//! The calibration sheet: reading, judging, writing, and the moves between its two forms (paper 02, Change 6).
 
 use crate::{Refusal, Result};
 
@@ -35,6 +35,32 @@ pub struct Figures {
     pub ffst: i64,
 }
 
+/// Who was calibrated, and when: a serial number and the days after 1 January 2000.
+#[derive(Clone, Copy, Debug, Default, PartialEq, Eq)]
+pub struct Identity {
+    pub serial: i64,
+    pub day: i64,
+}
+
+impl Identity {
+    fn in_range(&self) -> bool {
+        (0..=most::SERIAL).contains(&self.serial) && (0..=most::DAY).contains(&self.day)
+    }
+}
+
+/// What a sheet holds. The form is its first count; an old sheet has no identity, and zeros in its place.
+#[derive(Clone, Copy, Debug, Default, PartialEq, Eq)]
+pub struct Contents {
+    pub form: u8,
+    pub identity: Identity,
+    pub figures: Figures,
+}
+
+/// "A first count of 4 marks the old sheet."
+pub const OLD: u8 = 4;
+/// "The new sheet has one more section in front, count 2".
+pub const NEW: u8 = 2;
+
 /// Largest magnitudes.
 pub mod most {
     pub const COFS: i64 = 19_660_800;
@@ -48,10 +74,18 @@ pub mod most {
     pub const SYSTEM: i64 = 2_097_152_000; // SOFS, SMIN, SMAX, SZ
     pub const FFLV: i64 = 39_321_600;
     pub const FFST: i64 = 1_000;
+    pub const SERIAL: i64 = 4_294_967_295;
+    pub const DAY: i64 = 65_535;
 }
 
-/// Length of the sheet with five and seven points.
-pub const LONGEST: usize = 325;
+/// Length of the old sheet with five and seven points.
+pub const LONGEST_OLD: usize = 325;
+/// Bytes of the section in front: a count and two figures.
+pub const IN_FRONT: usize = 17;
+/// Length of the new sheet with five and seven points.
+pub const LONGEST: usize = LONGEST_OLD + IN_FRONT;
+/// "a lent scratch buffer of at least 342 bytes", whatever the sheet's length.
+pub const SCRATCH: usize = 342;
 
 impl Figures {
     /// The default sheet of document 001.
@@ -110,12 +144,28 @@ fn hold(condition: bool, refusal: Refusal) -> Result<()> {
     condition.then_some(()).ok_or(refusal)
 }
 
-/// Read a sheet, judging it from left to right.
-pub fn read(sheet: &[u8]) -> Result<Figures> {
+/// Read a sheet of either form, judging it from left to right.
+pub fn read(sheet: &[u8]) -> Result<Contents> {
     let mut s = Cursor { sheet, at: 0 };
+    let mut identity = Identity::default();
+    let form = s.count(0, u8::MAX)?;
+    match form {
+        OLD => {}
+        NEW => {
+            identity.serial = s.within(0, most::SERIAL)?;
+            identity.day = s.within(0, most::DAY)?;
+            s.count(OLD, OLD)?;
+        }
+        _ => return Err(Refusal::WrongCount),
+    }
+    let figures = figures(&mut s)?;
+    Ok(Contents { form, identity, figures })
+}
+
+/// What stands behind the count 4 of the cell's section, up to the sheet's end.
+fn figures(s: &mut Cursor) -> Result<Figures> {
     let mut f = Figures::default();
 
-    s.count(4, 4)?;
     f.cofs = s.figure(most::COFS)?;
     f.cgai = s.figure(most::CGAI)?;
     f.cmin = s.figure(most::CELL)?;
@@ -154,13 +204,13 @@ pub fn read(sheet: &[u8]) -> Result<Figures> {
     s.count(2, 2)?;
     f.fflv = s.within(0, most::FFLV)?;
     f.ffst = s.within(0, most::FFST)?;
-    hold(s.at == sheet.len(), Refusal::Trailing)?;
+    hold(s.at == s.sheet.len(), Refusal::Trailing)?;
     Ok(f)
 }
 
 /// A sheet under construction.
 struct Draft {
-    bytes: [u8; LONGEST],
+    bytes: [u8; LONGEST_OLD],
     length: usize,
 }
 
@@ -184,8 +234,8 @@ impl Draft {
 
 /// The figures as a sheet, not yet judged; a point past its count is not looked at.
 fn draft(f: &Figures) -> Draft {
-    let mut d = Draft { bytes: [0; LONGEST], length: 0 };
-    d.count(4);
+    let mut d = Draft { bytes: [0; LONGEST_OLD], length: 0 };
+    d.count(OLD);
     d.figures(&[f.cofs, f.cgai, f.cmin, f.cmax]);
     d.count(f.ctn);
     for p in f.temperature.iter().take(f.ctn.into()) {
@@ -202,7 +252,7 @@ fn draft(f: &Figures) -> Draft {
     d
 }
 
-/// Write a sheet and give its length. The draft is judged by the reader: it meets a wrong point
+/// Write a sheet and give its length: "The writer keeps to the old sheet". The draft is judged by the reader: it meets a wrong point
 /// count before any point behind it, and can only find the draft short behind a wrong count.
 pub fn write(f: &Figures, out: &mut [u8]) -> Result<usize> {
     let d = draft(f);
@@ -214,5 +264,40 @@ pub fn write(f: &Figures, out: &mut [u8]) -> Result<usize> {
 
 /// The figures that a sheet with these figures gives: the same, with 0 in points past a count.
 pub fn read_back(f: &Figures) -> Result<Figures> {
-    read(draft(f).sheet())
+    read(draft(f).sheet()).map(|contents| contents.figures)
+}
+
+/// Judge a sheet that has to be of this form: "a sheet of the other form being 2 at its first count".
+fn read_form(form: u8, sheet: &[u8]) -> Result<Contents> {
+    hold(sheet.first().is_none_or(|&count| count == form), Refusal::WrongCount)?;
+    read(sheet)
+}
+
+/// The end of a move: the bytes at the front of both buffers, or 19.
+fn hand_over(bytes: &[u8], out: &mut [u8], scratch: &mut [u8]) -> Result<usize> {
+    hold(out.len() >= bytes.len() && scratch.len() >= SCRATCH, Refusal::Buffers)?;
+    for buffer in [out, scratch] {
+        buffer[..bytes.len()].copy_from_slice(bytes);
+    }
+    Ok(bytes.len())
+}
+
+/// Move an old sheet to the new form with this identity, and give the length written.
+pub fn to_new(sheet: &[u8], identity: Identity, out: &mut [u8], scratch: &mut [u8]) -> Result<usize> {
+    read_form(OLD, sheet)?;
+    hold(identity.in_range(), Refusal::Figure)?;
+    let mut bytes = [0; LONGEST];
+    let bytes = &mut bytes[..IN_FRONT + sheet.len()];
+    bytes[0] = NEW;
+    bytes[1..9].copy_from_slice(&identity.serial.to_le_bytes());
+    bytes[9..17].copy_from_slice(&identity.day.to_le_bytes());
+    bytes[IN_FRONT..].copy_from_slice(sheet);
+    hand_over(bytes, out, scratch)
+}
+
+/// Move a new sheet back to the old form, and give the length written and the identity beside the bytes.
+pub fn to_old(sheet: &[u8], out: &mut [u8], scratch: &mut [u8]) -> Result<(usize, Identity)> {
+    let Contents { identity, .. } = read_form(NEW, sheet)?;
+    let length = hand_over(&sheet[IN_FRONT..], out, scratch)?;
+    Ok((length, identity))
 }

@@ -1,17 +1,18 @@
-//! The edges of paper 01, and the rules of Changes 1, 2, 4 and 5 of paper 02.
+//! The edges of paper 01, and the rules of Changes 1, 2, 4, 5 and 6 of paper 02.
 
+mod forms;
 mod halves;
 mod platform;
 
 use crate::bus::crc16;
 use crate::device::{filter, interpolate, round_div, scale, REBOOT};
 use crate::panel::{Figure, ROWS};
-use crate::sheet::{most, read, write, LinearityPoint, TemperaturePoint, LONGEST};
+use crate::sheet::{most, read, write, LinearityPoint, TemperaturePoint, LONGEST_OLD};
 use crate::value::{float, magnitude, scaled, Range, FLAG, PARTS, STEPS, SZ, WHOLE};
 use crate::{bench, Device, Figures, Refusal};
 
 fn sheet(f: &Figures) -> Vec<u8> {
-    let mut out = [0; LONGEST];
+    let mut out = [0; LONGEST_OLD];
     let length = write(f, &mut out).unwrap();
     out[..length].to_vec()
 }
@@ -114,7 +115,7 @@ fn checksums() {
 fn sheets() {
     let standard = sheet(&Figures::standard());
     assert_eq!(standard.len(), 173);
-    assert_eq!(read(&standard), Ok(Figures::standard()));
+    assert_eq!(read(&standard).map(|contents| contents.figures), Ok(Figures::standard()));
     assert_eq!(read(&standard[..172]), Err(Refusal::ShortSheet));
     assert_eq!(read(&[&standard[..], &[0]].concat()), Err(Refusal::Trailing));
     let one = Figures { ctn: 1, ..Figures::standard() };

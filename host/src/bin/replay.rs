@@ -1,9 +1,9 @@
 //! replay SCENARIOS [BENCH-FOLDER]: the vectors against the model and, if linked, the archive.
 
 use host::tool::{failed, run, Failure};
-use host::{Converter, FILL, WITH_ARCHIVE};
-use model::sheet::{self, LinearityPoint, TemperaturePoint};
-use model::{number, Figures, Sample};
+use host::{Converter, Laboratory, FILL, FILL_SCRATCH, WITH_ARCHIVE};
+use model::sheet::{LinearityPoint, TemperaturePoint};
+use model::{Contents, Figures, Identity, Sample};
 use std::path::{Path, PathBuf};
 use std::str::FromStr;
 use std::{fs, process::ExitCode};
@@ -11,7 +11,6 @@ use std::{fs, process::ExitCode};
 #[derive(Default)]
 struct Tally {
     checked: usize,
-    left_out: usize,
     differences: usize,
 }
 
@@ -81,8 +80,47 @@ fn list(f: &Figures) -> String {
 }
 
 /// A lent buffer; its length has two bytes, so that no line asks for more than there is.
-fn buffer(room: &str) -> Result<Vec<u8>, String> {
-    Ok(vec![FILL; parsed::<u16>(room, "a room of 0 to 65535")?.into()])
+fn buffer(fill: u8, room: &str) -> Result<Vec<u8>, String> {
+    Ok(vec![fill; parsed::<u16>(room, "a room of 0 to 65535")?.into()])
+}
+
+/// The number and what the sheet holds. Judging it alone has to give the same number.
+fn contents<C: Laboratory>(sheet: &str) -> Result<(String, Contents), String> {
+    let sheet = bytes(sheet)?;
+    let (number, contents) = C::read_sheet(&sheet);
+    let judged = C::judge_sheet(&sheet);
+    Ok((if judged == number { number.to_string() } else { format!("{number}, judged {judged},") }, contents))
+}
+
+/// Calls on sheets, for which no device is meant.
+fn on_sheets<C: Laboratory>(words: &[&str]) -> Result<String, String> {
+    Ok(match *words {
+        ["read", sheet] => {
+            let (number, Contents { figures, .. }) = contents::<C>(sheet)?;
+            format!("{number} {}", list(&figures))
+        }
+        ["contents", sheet] => {
+            let (number, Contents { form, identity: Identity { serial, day }, figures }) = contents::<C>(sheet)?;
+            format!("{number} {form} {serial} {day} {}", list(&figures))
+        }
+        ["write", figure_list, room] => {
+            let mut out = buffer(FILL, room)?;
+            let (number, length) = C::write_sheet(&figures(figure_list)?, &mut out);
+            format!("{number} {length} {}", hex(&out))
+        }
+        ["to-new", sheet, serial, day, room, scratch] => {
+            let (mut out, mut scratch) = (buffer(FILL, room)?, buffer(FILL_SCRATCH, scratch)?);
+            let identity = Identity { serial: parsed(serial, "a serial")?, day: parsed(day, "a day")? };
+            let (number, length) = C::move_to_new(&bytes(sheet)?, identity, &mut out, &mut scratch);
+            format!("{number} {length} {} {}", hex(&out), hex(&scratch))
+        }
+        ["to-old", sheet, room, scratch] => {
+            let (mut out, mut scratch) = (buffer(FILL, room)?, buffer(FILL_SCRATCH, scratch)?);
+            let (number, length, Identity { serial, day }) = C::move_to_old(&bytes(sheet)?, &mut out, &mut scratch);
+            format!("{number} {length} {serial} {day} {} {}", hex(&out), hex(&scratch))
+        }
+        _ => return Err(format!("no such call: {}", short(&words.join(" ")))),
+    })
 }
 
 /// A refused making leaves the device, and a record of zeros.
@@ -143,7 +181,7 @@ fn corners<C: Converter>(devices: &mut [C], words: &[&str]) -> Result<String, St
 }
 
 /// What a call gives, as a line of the vectors has it; or what is wrong with the line.
-fn found<C: Converter>(scenario: &mut Scenario<C>, words: &[&str]) -> Result<String, String> {
+fn found<C: Converter + Laboratory>(scenario: &mut Scenario<C>, words: &[&str]) -> Result<String, String> {
     let device = &mut scenario.devices[scenario.meant];
     Ok(match *words {
         ["make", sheet, station] => make(device, &bytes(sheet)?, parsed(station, "a station")?),
@@ -157,24 +195,15 @@ fn found<C: Converter>(scenario: &mut Scenario<C>, words: &[&str]) -> Result<Str
             format!("{number} {sys:08x} {peak:08x} {trof:08x} {cell:08x}")
         }
         ["frame", frame, room] => {
-            let mut reply = buffer(room)?;
+            let mut reply = buffer(FILL, room)?;
             let (number, length) = device.frame(&bytes(frame)?, &mut reply);
             format!("{number} {length} {}", hex(&reply))
         }
-        ["read", sheet] => {
-            let read = sheet::read(&bytes(sheet)?);
-            format!("{} {}", number(&read), list(&read.unwrap_or_default()))
-        }
-        ["write", figure_list, room] => {
-            let mut out = buffer(room)?;
-            let written = sheet::write(&figures(figure_list)?, &mut out);
-            format!("{} {} {}", number(&written), written.unwrap_or(0), hex(&out))
-        }
-        _ => return Err(format!("no such call: {}", short(&words.join(" ")))),
+        _ => on_sheets::<C>(words)?,
     })
 }
 
-fn scenarios<C: Converter>(text: &str, with_sheets: bool, tally: &mut Tally) -> Result<(), String> {
+fn scenarios<C: Converter + Laboratory>(text: &str, tally: &mut Tally) -> Result<(), String> {
     let mut scenario = Scenario::<C>::new();
     for (line, at) in text.lines().zip(1..) {
         let words: Vec<&str> = line.split(' ').collect();
@@ -182,7 +211,6 @@ fn scenarios<C: Converter>(text: &str, with_sheets: bool, tally: &mut Tally) -> 
         match words[..] {
             ["scenario", _] => scenario = Scenario::new(),
             ["use", k] => scenario.meant = place(k).map_err(in_line)?,
-            ["read" | "write", ..] if !with_sheets => tally.left_out += 1,
             _ => {
                 let (call, expected) = line.split_once(" = ").unwrap_or((line, ""));
                 let call_words: Vec<&str> = call.split(' ').collect();
@@ -212,14 +240,14 @@ fn bench<C: Converter>(folder: &Path, tally: &mut Tally) -> Result<(), Failure> 
     Ok(())
 }
 
-fn replay<C: Converter>(name: &str, file: &str, folder: Option<&String>, with_sheets: bool) -> Result<bool, Failure> {
+fn replay<C: Converter + Laboratory>(name: &str, file: &str, folder: Option<&String>) -> Result<bool, Failure> {
     let text = fs::read_to_string(file).map_err(failed(file))?;
     let (mut lines, mut runs) = (Tally::default(), Tally::default());
-    scenarios::<C>(&text, with_sheets, &mut lines).map_err(|wrong| Failure::Said(format!("{file}: {wrong}")))?;
+    scenarios::<C>(&text, &mut lines).map_err(|wrong| Failure::Said(format!("{file}: {wrong}")))?;
     if let Some(folder) = folder {
         bench::<C>(Path::new(folder), &mut runs)?;
     }
-    println!("{name}: {} lines checked, {} left out, {} differences", lines.checked, lines.left_out, lines.differences);
+    println!("{name}: {} lines checked, {} differences", lines.checked, lines.differences);
     println!("{name}: {} bench runs checked, {} differences", runs.checked, runs.differences);
     if lines.checked == 0 {
         return Err(Failure::Said(format!("{file}: no line to check")));
@@ -231,8 +259,8 @@ fn main() -> ExitCode {
     run("replay SCENARIOS [BENCH-FOLDER]", |words| {
         let ([file] | [file, _]) = words else { return Err(Failure::Usage) };
         let folder = words.get(1);
-        let model = replay::<model::Device>("model", file, folder, true)?;
-        let archive = !WITH_ARCHIVE || replay::<host::Other>("archive", file, folder, false)?;
+        let model = replay::<model::Device>("model", file, folder)?;
+        let archive = !WITH_ARCHIVE || replay::<host::Other>("archive", file, folder)?;
         Ok(model && archive)
     })
 }
