@@ -112,6 +112,13 @@ fn malformed_lines() {
         ("corners 1 2 3 4 0 0 0 0 0 0 0 x 0 0 0 0 = 0", "not TEMP: x"),
         ("write 1,x 9 = 0", "not a figure: x"),
         ("write 1,2 9 = 0", "not 40 figures and 2 counts: 1,2"),
+        ("contents 2 = 1", "not hexadecimal bytes: 2"),
+        ("to-new - x 0 0 0 = 1", "not a serial: x"),
+        ("to-new - 0 9223372036854775808 0 0 = 1", "not a day: 9223372036854775808"),
+        ("to-new - 0 0 0 = 1", "no such call: to-new - 0 0 0"),
+        ("to-old - 65536 0 = 1", "not a room of 0 to 65535: 65536"),
+        ("to-old - 0 -1 = 1", "not a room of 0 to 65535: -1"),
+        ("to-old zz 0 0 = 1", "not hexadecimal bytes: zz"),
     ];
     for (i, (line, wrong)) in table.into_iter().enumerate() {
         let path = place(&format!("malformed-{i}.txt"));
@@ -132,6 +139,25 @@ fn a_difference_is_seen() {
     let (code, said, wrong) = run(REPLAY, &[path.to_str().expect("text")], Stdio::null(), Stdio::piped());
     assert_eq!((code, wrong.as_str()), (Some(1), ""));
     assert!(said.starts_with("DIFFERENCE at line 1: report\n") && said.contains(" 1 differences\n"), "{said}");
+}
+
+/// Each part of a move's answer is compared: number, length, identity, and the bytes of both buffers.
+#[test]
+fn a_difference_of_a_move_is_seen() {
+    let replayed = |line: &str| {
+        let path = place("move.txt");
+        fs::write(&path, format!("{line}\n")).expect("written");
+        run(REPLAY, &[path.to_str().expect("text")], Stdio::null(), Stdio::piped()).0
+    };
+    let (new, old) = ("to-new 03 1 2 2 1 =", "to-old 04 2 1 =");
+    let right = [format!("{new} 2 0 a5a5 5c"), format!("{old} 2 0 0 0 a5a5 5c")];
+    assert_eq!(right.map(|line| replayed(&line)), [Some(0); 2]);
+    for wrong in ["19 0 a5a5 5c", "2 1 a5a5 5c", "2 0 a55c 5c", "2 0 a5a5 5d", "2 0 a5a5 -", "2 0 a5a5"] {
+        assert_eq!(replayed(&format!("{new} {wrong}")), Some(1), "{wrong}");
+    }
+    for wrong in ["3 0 0 0 a5a5 5c", "2 0 1 0 a5a5 5c", "2 0 0 1 a5a5 5c", "2 0 0 0 00a5 5c", "2 0 0 0 a5a5 a5"] {
+        assert_eq!(replayed(&format!("{old} {wrong}")), Some(1), "{wrong}");
+    }
 }
 
 #[test]
