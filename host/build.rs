@@ -1,4 +1,4 @@
-//! With the feature `archive`: link libboard.a, found in BOARD_LIB_DIR.
+//! With the feature `archive`: link libboard.a and liblaboratory.a, found in BOARD_LIB_DIR.
 
 use std::ffi::OsString;
 use std::path::PathBuf;
@@ -14,21 +14,27 @@ fn main() {
         eprintln!("{wrong}");
         process::exit(1);
     });
-    println!("cargo:rerun-if-changed={}", dir.join("libboard.a").display());
     println!("cargo:rustc-link-search=native={}", dir.display());
-    println!("cargo:rustc-link-lib=static:-bundle=board");
+    for name in ARCHIVES {
+        println!("cargo:rerun-if-changed={}", dir.join(format!("lib{name}.a")).display());
+        println!("cargo:rustc-link-lib=static:-bundle={name}");
+    }
 }
 
-/// The folder that has the archive, or what is wrong with it.
+const ARCHIVES: [&str; 2] = ["board", "laboratory"];
+
+/// The folder that has the archives, or what is wrong with it.
 pub fn folder(dir: Option<OsString>) -> Result<PathBuf, String> {
     let Some(dir) = dir.filter(|dir| !dir.is_empty()).map(PathBuf::from) else {
-        return Err("BOARD_LIB_DIR is not set: the feature `archive` links libboard.a from that folder".into());
+        return Err("BOARD_LIB_DIR is not set: the feature `archive` links libboard.a and liblaboratory.a there".into());
     };
     if !dir.is_dir() {
         return Err(format!("BOARD_LIB_DIR: {} is not a folder", dir.display()));
     }
-    if !dir.join("libboard.a").is_file() {
-        return Err(format!("BOARD_LIB_DIR: no libboard.a in {}; `rt staticlib board` writes it", dir.display()));
+    for name in ARCHIVES {
+        if !dir.join(format!("lib{name}.a")).is_file() {
+            return Err(format!("BOARD_LIB_DIR: no lib{name}.a in {}; `rt staticlib {name}` writes it", dir.display()));
+        }
     }
     Ok(dir)
 }

@@ -1,14 +1,16 @@
 /* The converter of a load cell: readings, calibration sheet and Modbus RTU (paper 01), with calibration over the bus,
- * a filter level between samples, the four corners of a platform and halves of a step rounded away from zero, so that a
- * cell is pulled as it is pushed (paper 02, Changes 1, 2, 4 and 5), proved in Rattle.
+ * a filter level between samples, the four corners of a platform, halves of a step rounded away from zero, so that a
+ * cell is pulled as it is pushed, and sheets with an identity (paper 02, Changes 1, 2, 4, 5 and 6), proved in Rattle.
  *
- * Link the archive libboard.a (`rt staticlib board`, x86-64). There is no heap and no global state: everything that a
- * device is stands in one record that the caller keeps, for as long as it likes and where it likes. A call runs to its
- * end on the caller's stack, and two devices are independent of each other.
+ * Link the archive libboard.a (`rt staticlib board`, x86-64) for devices, and liblaboratory.a (`rt staticlib
+ * laboratory`) for the calls on sheets, which firmware need not carry; either one alone, or both. There is no heap and
+ * no global state: everything that a device is stands in one record that the caller keeps, for as long as it likes and
+ * where it likes. A call runs to its end on the caller's stack, and two devices are independent of each other.
  *
  * What a caller has to keep:
  * - Pointers are not null and point to what they are said to; lengths are true.
- * - Record, frame and reply buffer of a call do not overlap, and a record is used by one call at a time.
+ * - Record, frame and reply buffer of a call do not overlap, and a record is used by one call at a time. Nor do sheet,
+ *   output and scratch of a call overlap.
  * - The four records of converter_weigh are four different ones: no pointer is given twice, and no record overlaps
  *   another or the samples. Stations may be equal.
  * - A record that is handed to converter_reading, converter_report, converter_frame or converter_weigh is the device of
@@ -20,9 +22,12 @@
  * Who finds the frames: the caller. On the line a frame ends with a silence of 3.5 characters (t3.5); hand over what
  * stood between two silences, whole, and send the reply, if there is one, after the next.
  *
- * Symbols that the archive needs: memset. (The caller's compiler may ask for memcpy, to assign a record.)
- * Bytes of stack, at most, return address and red zone included: converter_make 1536, and what memset takes;
- * converter_reading 128; converter_report 64; converter_frame 1536; converter_weigh 256. */
+ * Symbols that libboard.a needs: memset. Symbols that liblaboratory.a needs: memset. (The caller's compiler may ask for
+ * memcpy, to assign a record.)
+ * Bytes of stack of libboard.a, at most, return address and red zone included: converter_make 1536, and what memset
+ * takes; converter_reading 128; converter_report 64; converter_frame 1536; converter_weigh 256.
+ * Bytes of stack of liblaboratory.a, likewise: converter_judge_sheet 512; converter_read_sheet 1024;
+ * converter_write_sheet 1536; converter_move_to_new 1024; converter_move_to_old 1024. */
 #ifndef CONVERTER_H
 #define CONVERTER_H
 
@@ -38,7 +43,7 @@ extern "C" {
 
 /* Another MAJOR: code that was compiled with the older header must not be linked with this archive. */
 #define CONVERTER_VERSION_MAJOR 3
-#define CONVERTER_VERSION_MINOR 2
+#define CONVERTER_VERSION_MINOR 3
 #define CONVERTER_VERSION_PATCH 0
 
 /* Numbers of refusal; 0 is an accepted call. */
@@ -63,6 +68,21 @@ enum {
     CONVERTER_CORNER_REFUSED = 18, /* any of a platform's four readings would be 9 */
     CONVERTER_BUFFERS = 19         /* of a move: output or scratch too short */
 };
+
+/* The first count of a sheet: 4 of the old form, 2 of the new one, which has a serial and a day in front. */
+enum {
+    CONVERTER_OLD_FORM = 4,
+    CONVERTER_NEW_FORM = 2
+};
+
+/* Bytes of the longest sheet of each form: such a room is always enough. */
+enum {
+    CONVERTER_LONGEST_OLD = 325,
+    CONVERTER_LONGEST_NEW = 342
+};
+
+/* Bytes of a move's scratch, at least, whatever the sheet's length. */
+enum { CONVERTER_SCRATCH = 342 };
 
 /* Registers, as wire addresses: what stands in a frame, twice 004's register number. Of a table's column it is the
  * first point's, and the next point's is 2 further. CGAI to FFST and CTN to CTO are the figures of the waiting copy;
@@ -157,6 +177,10 @@ typedef struct { converter_setup setup; converter_state state; } converter_devic
 typedef struct { int64_t elec, temp; uint8_t integrity; } converter_sample;
 typedef struct { converter_sample one, two, three, four; } converter_samples;
 
+/* ---- What converter_move_to_new takes: serial 0 to 4,294,967,295, and days after 1 January 2000, 0 to 65,535. */
+
+typedef struct { int64_t serial, day; } converter_identity;
+
 /* ---- What calls answer. */
 
 /* The number, and the device; beside a refusal a record in which every field is 0, which is no device. */
@@ -176,11 +200,26 @@ typedef struct { int64_t one, two, three, four, total, left, right, difference; 
 /* The number, and the weights, 0 each beside a refusal. */
 typedef struct { uint8_t number; converter_weights weights; } converter_weighed;
 
-/* ---- The calls. */
+/* The number, and what a sheet holds: its form, of a new sheet the identity, else 0 and 0, and the figures, in which
+ * points past a count are 0. All 0 beside a refusal. */
+typedef struct {
+    uint8_t number, form;
+    converter_identity identity;
+    converter_calibration figures;
+} converter_contents;
 
-/* A device of a calibration sheet of `length` bytes and a station. Takes any bytes and any station. Answers 0 and the
- * device; or 8, then 1 to 7, and no device. It writes to no record: one that is in use stays as it is until the caller
- * assigns the new device to it. The sheet is not kept. */
+/* The number, and how many bytes were put at the output's front, 0 beside a refusal. */
+typedef struct { uint8_t number; size_t length; } converter_written;
+
+/* The same, and the identity that stood on the sheet, 0 and 0 beside a refusal. */
+typedef struct { uint8_t number; size_t length; converter_identity identity; } converter_moved_back;
+
+/* ---- The calls of libboard.a. */
+
+/* A device of a calibration sheet of `length` bytes, of either form, and a station. Takes any bytes and any station.
+ * Answers 0 and the device, the same one of both forms; or 8, then 1 to 7, and no device. It writes to no record: one
+ * that is in use stays as it is until the caller assigns the new device to it. Neither the sheet nor its identity is
+ * kept. */
 converter_outcome converter_make(const uint8_t *sheet, size_t length, uint8_t station);
 
 /* A reading: ELEC in steps of a percent, TEMP in steps of a degree, and 0 (sound) or 1 (fault).
@@ -202,7 +241,31 @@ converter_answered converter_frame(converter_device *device, const uint8_t *fram
 converter_weighed converter_weigh(converter_device *one, converter_device *two, converter_device *three,
                                   converter_device *four, const converter_samples *samples);
 
-/* ---- The archive's layout: does this compiler lay the records out the same? Where not, an array has length -1. */
+/* ---- The calls of liblaboratory.a: on sheets, without a device. */
+
+/* Whether a sheet is accepted. Takes any bytes, of either form. Answers 0; or 1 to 7, the first fault from the left. */
+uint8_t converter_judge_sheet(const uint8_t *sheet, size_t length);
+
+/* What stands on a sheet of either form. Answers 0 and its contents; or 1 to 7, as converter_judge_sheet, and zeros. */
+converter_contents converter_read_sheet(const uint8_t *sheet, size_t length);
+
+/* Writes the figures as an old sheet, 173 to 325 bytes. Points past a count are not looked at. Answers 0 and the
+ * length; or 2 to 6, then 12 where `room` is too short. Bytes past the sheet are untouched, beside a refusal all. */
+converter_written converter_write_sheet(converter_calibration figures, uint8_t *out, size_t room);
+
+/* Moves an old sheet to the new form with this identity: 17 bytes more, 190 to 342. Answers 0 and the length, and these
+ * bytes stand at the front of the output and of the scratch; or 1 to 7 for the sheet, a new one being 2, then 3 for the
+ * identity, then 19 where `room` is less than that length, or `scratch_room` than CONVERTER_SCRATCH. Other bytes are
+ * untouched, beside a refusal all of both buffers. */
+converter_written converter_move_to_new(const uint8_t *sheet, size_t length, converter_identity identity, uint8_t *out,
+                                        size_t room, uint8_t *scratch, size_t scratch_room);
+
+/* Moves a new sheet back: gives the old bytes again, 17 less, 173 to 325. Answers 0, the length and the identity; or 1
+ * to 7 for the sheet, an old one being 2, then 19. The buffers as by converter_move_to_new. */
+converter_moved_back converter_move_to_old(const uint8_t *sheet, size_t length, uint8_t *out, size_t room,
+                                           uint8_t *scratch, size_t scratch_room);
+
+/* ---- The archives' layout: does this compiler lay the records out the same? Where not, an array has length -1. */
 
 #define CONVERTER_SIZE(record, size) \
     typedef char converter_##record##_takes_##size[sizeof(converter_##record) == size ? 1 : -1]
@@ -241,6 +304,11 @@ CONVERTER_SIZE(weights, 64); CONVERTER_AT(weights, two, 8); CONVERTER_AT(weights
 CONVERTER_AT(weights, four, 24); CONVERTER_AT(weights, total, 32); CONVERTER_AT(weights, left, 40);
 CONVERTER_AT(weights, right, 48); CONVERTER_AT(weights, difference, 56);
 CONVERTER_SIZE(weighed, 72); CONVERTER_AT(weighed, weights, 8);
+CONVERTER_SIZE(identity, 16); CONVERTER_AT(identity, day, 8);
+CONVERTER_SIZE(contents, 360); CONVERTER_AT(contents, form, 1); CONVERTER_AT(contents, identity, 8);
+CONVERTER_AT(contents, figures, 24);
+CONVERTER_SIZE(written, 16); CONVERTER_AT(written, length, 8);
+CONVERTER_SIZE(moved_back, 32); CONVERTER_AT(moved_back, length, 8); CONVERTER_AT(moved_back, identity, 16);
 
 #undef CONVERTER_SIZE
 #undef CONVERTER_AT

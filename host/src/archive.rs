@@ -1,7 +1,7 @@
-//! The proved library, linked as libboard.a: the declarations of include/converter.h, and the trait over them.
-//! `bool` is declared as a byte here, so that no byte the archive stores can be undefined.
+//! The proved library, linked as libboard.a and liblaboratory.a: the declarations of include/converter.h, and the traits
+//! over them. `bool` is declared as a byte here, so that no byte the archive stores can be undefined.
 
-use model::{sheet, Converter, Figures, Reading};
+use model::{sheet, Converter, Figures, Laboratory, Reading};
 
 macro_rules! record {
     ($name:ident { $($field:ident: $kind:ty),* $(,)? }) => {
@@ -33,6 +33,10 @@ record!(Sample { elec: i64, temp: i64, integrity: u8 });
 record!(Samples { one: Sample, two: Sample, three: Sample, four: Sample });
 record!(Weights { one: i64, two: i64, three: i64, four: i64, total: i64, left: i64, right: i64, difference: i64 });
 record!(Weighed { number: u8, weights: Weights });
+record!(Identity { serial: i64, day: i64 });
+record!(Contents { number: u8, form: u8, identity: Identity, figures: Calibration });
+record!(Written { number: u8, length: usize });
+record!(MovedBack { number: u8, length: usize, identity: Identity });
 
 extern "C" {
     fn converter_make(sheet: *const u8, length: usize, station: u8) -> Outcome;
@@ -46,6 +50,26 @@ extern "C" {
         four: *mut Device,
         samples: *const Samples,
     ) -> Weighed;
+    fn converter_judge_sheet(sheet: *const u8, length: usize) -> u8;
+    fn converter_read_sheet(sheet: *const u8, length: usize) -> Contents;
+    fn converter_write_sheet(figures: Calibration, out: *mut u8, room: usize) -> Written;
+    fn converter_move_to_new(
+        sheet: *const u8,
+        length: usize,
+        identity: Identity,
+        out: *mut u8,
+        room: usize,
+        scratch: *mut u8,
+        scratch_room: usize,
+    ) -> Written;
+    fn converter_move_to_old(
+        sheet: *const u8,
+        length: usize,
+        out: *mut u8,
+        room: usize,
+        scratch: *mut u8,
+        scratch_room: usize,
+    ) -> MovedBack;
 }
 
 // Each call lends live Rust memory with its true length for the time of the call only.
@@ -101,6 +125,74 @@ impl Converter for Device {
             flag,
             last: (r.any != 0).then_some(reading),
             snapshot: (snapshot.taken != 0).then_some(snapshot.sysn),
+        }
+    }
+}
+
+impl Laboratory for Device {
+    fn judge_sheet(sheet: &[u8]) -> u8 {
+        unsafe { converter_judge_sheet(sheet.as_ptr(), sheet.len()) }
+    }
+
+    fn read_sheet(sheet: &[u8]) -> (u8, model::Contents) {
+        let read = unsafe { converter_read_sheet(sheet.as_ptr(), sheet.len()) };
+        let Contents { number, form, identity, figures } = read;
+        (number, model::Contents { form, identity: identity.into(), figures: figures.into() })
+    }
+
+    fn write_sheet(figures: &Figures, out: &mut [u8]) -> (u8, usize) {
+        let written = unsafe { converter_write_sheet(figures.into(), out.as_mut_ptr(), out.len()) };
+        (written.number, written.length)
+    }
+
+    fn move_to_new(sheet: &[u8], id: model::Identity, out: &mut [u8], scratch: &mut [u8]) -> (u8, usize) {
+        let identity = Identity { serial: id.serial, day: id.day };
+        let written = unsafe {
+            converter_move_to_new(
+                sheet.as_ptr(),
+                sheet.len(),
+                identity,
+                out.as_mut_ptr(),
+                out.len(),
+                scratch.as_mut_ptr(),
+                scratch.len(),
+            )
+        };
+        (written.number, written.length)
+    }
+
+    fn move_to_old(sheet: &[u8], out: &mut [u8], scratch: &mut [u8]) -> (u8, usize, model::Identity) {
+        let moved = unsafe {
+            converter_move_to_old(
+                sheet.as_ptr(),
+                sheet.len(),
+                out.as_mut_ptr(),
+                out.len(),
+                scratch.as_mut_ptr(),
+                scratch.len(),
+            )
+        };
+        (moved.number, moved.length, moved.identity.into())
+    }
+}
+
+impl From<Identity> for model::Identity {
+    fn from(Identity { serial, day }: Identity) -> model::Identity {
+        model::Identity { serial, day }
+    }
+}
+
+impl From<&Figures> for Calibration {
+    fn from(f: &Figures) -> Calibration {
+        Calibration {
+            cell: Cell { cofs: f.cofs, cgai: f.cgai, cmin: f.cmin, cmax: f.cmax },
+            temperature: Temperature {
+                ctn: f.ctn,
+                points: f.temperature.map(|p| TemperaturePoint { ct: p.ct, cto: p.cto, ctg: p.ctg }),
+            },
+            linearity: Linearity { cln: f.cln, points: f.linearity.map(|p| LinearityPoint { clx: p.clx, clk: p.clk }) },
+            system: System { sofs: f.sofs, sgai: f.sgai, smin: f.smin, smax: f.smax, sz: f.sz },
+            filter: Filter { fflv: f.fflv, ffst: f.ffst },
         }
     }
 }

@@ -5,7 +5,7 @@ mod platform;
 
 use crate::{read_frame, sealed, write_frame, APPLY, REGISTERS, RST};
 use model::panel::Figure;
-use model::sheet::{self, most, LONGEST};
+use model::sheet::{self, most, LONGEST_OLD};
 use model::{Device, Figures, Reading, Sample};
 
 /// xorshift64*.
@@ -133,7 +133,7 @@ pub fn figures(rng: &mut Rng) -> Figures {
 }
 
 pub fn sheet(f: &Figures) -> Vec<u8> {
-    let mut out = [0; LONGEST];
+    let mut out = [0; LONGEST_OLD];
     let length = sheet::write(f, &mut out).expect("acceptable figures");
     out[..length].to_vec()
 }

@@ -175,7 +175,7 @@ fn the_folder_of_the_archive() {
     let empty = place("no-archive");
     fs::create_dir_all(&empty).expect("made");
     let shown = empty.display().to_string();
-    let set = "BOARD_LIB_DIR is not set: the feature `archive` links libboard.a from that folder";
+    let set = "BOARD_LIB_DIR is not set: the feature `archive` links libboard.a and liblaboratory.a there";
     let table = [
         (None, set.to_string()),
         (Some(String::new()), set.to_string()),
@@ -186,7 +186,11 @@ fn the_folder_of_the_archive() {
         assert_eq!(build::folder(dir.map(OsString::from)), Err(wrong));
     }
     let full = place("archive");
+    let _ = fs::remove_dir_all(&full);
     fs::create_dir_all(&full).expect("made");
     fs::write(full.join("libboard.a"), "").expect("written");
+    let half = format!("BOARD_LIB_DIR: no liblaboratory.a in {}; `rt staticlib laboratory` writes it", full.display());
+    assert_eq!(build::folder(Some(full.clone().into())), Err(half));
+    fs::write(full.join("liblaboratory.a"), "").expect("written");
     assert_eq!(build::folder(Some(full.clone().into())), Ok(full));
 }

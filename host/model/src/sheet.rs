@@ -78,12 +78,11 @@ pub mod most {
     pub const DAY: i64 = 65_535;
 }
 
-/// Length of the old sheet with five and seven points.
+/// Lengths of the sheets with five and seven points.
 pub const LONGEST_OLD: usize = 325;
+pub const LONGEST_NEW: usize = 342;
 /// Bytes of the section in front: a count and two figures.
 pub const IN_FRONT: usize = 17;
-/// Length of the new sheet with five and seven points.
-pub const LONGEST: usize = LONGEST_OLD + IN_FRONT;
 /// "a lent scratch buffer of at least 342 bytes", whatever the sheet's length.
 pub const SCRATCH: usize = 342;
 
@@ -286,7 +285,7 @@ fn hand_over(bytes: &[u8], out: &mut [u8], scratch: &mut [u8]) -> Result<usize> 
 pub fn to_new(sheet: &[u8], identity: Identity, out: &mut [u8], scratch: &mut [u8]) -> Result<usize> {
     read_form(OLD, sheet)?;
     hold(identity.in_range(), Refusal::Figure)?;
-    let mut bytes = [0; LONGEST];
+    let mut bytes = [0; LONGEST_NEW];
     let bytes = &mut bytes[..IN_FRONT + sheet.len()];
     bytes[0] = NEW;
     bytes[1..9].copy_from_slice(&identity.serial.to_le_bytes());

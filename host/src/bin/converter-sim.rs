@@ -8,7 +8,7 @@ use host::refusals::meaning;
 use host::served::Served;
 use host::simulator::{Simulator, Source};
 use host::tool::{failed, run, Failure};
-use model::sheet::LONGEST;
+use model::sheet::LONGEST_NEW;
 use model::Figures;
 use std::fs::File;
 use std::io::{self, Read, Write};
@@ -75,7 +75,7 @@ fn sheet_bytes(sheet: &str) -> io::Result<Vec<u8>> {
         return Ok(host::generate::sheet(&Figures::standard()));
     }
     let mut bytes = Vec::new();
-    File::open(sheet)?.take(LONGEST as u64 + 1).read_to_end(&mut bytes)?;
+    File::open(sheet)?.take(LONGEST_NEW as u64 + 1).read_to_end(&mut bytes)?;
     Ok(bytes)
 }
 

@@ -1,7 +1,7 @@
 //! Sheets with an identity: Change 6 of paper 02.
 
 use super::sheet;
-use crate::sheet::{read, to_new, to_old, write, LinearityPoint, LONGEST, LONGEST_OLD, NEW, OLD, SCRATCH};
+use crate::sheet::{read, to_new, to_old, write, LinearityPoint, LONGEST_NEW, LONGEST_OLD, NEW, OLD, SCRATCH};
 use crate::{bench, Contents, Device, Figures, Identity, Refusal, Result};
 
 const FILL: u8 = 0xa5;
@@ -61,7 +61,7 @@ fn refuses_to_old(sheet: &[u8], [room, scratch]: [usize; 2], refusal: Refusal) {
 #[test]
 fn both_forms_hold_the_same_figures() {
     let old = standard();
-    assert_eq!([old.len(), longest().len(), LONGEST_OLD, LONGEST], [173, 325, 325, 342]);
+    assert_eq!([old.len(), longest().len(), LONGEST_OLD, LONGEST_NEW], [173, 325, 325, 342]);
     let figures = Figures::standard();
     assert_eq!(read(&old), Ok(Contents { form: OLD, identity: Identity::default(), figures }));
     for (serial, day) in [(0, 0), (1, 0), (0, 1), (4_294_967_295, 65_535)] {
@@ -133,7 +133,7 @@ fn there_and_back() {
                 assert_eq!(moved_back(&new, room, scratch), due);
             }
             // "The writer keeps to the old sheet".
-            let mut out = [0; LONGEST];
+            let mut out = [0; LONGEST_NEW];
             let length = write(&read(&new).unwrap().figures, &mut out).unwrap();
             assert_eq!((length, &out[..length]), (old.len(), &old[..]));
         }
