@@ -1,11 +1,13 @@
 //! Seeded random and adversarial calls. The model's state is looked at only to aim at the edges.
 
+pub mod laboratory;
 mod panel;
 mod platform;
 
 use crate::{read_frame, sealed, write_frame, APPLY, REGISTERS, RST};
+use laboratory::{identity, with_identity, Task};
 use model::panel::Figure;
-use model::sheet::{self, most, LONGEST_OLD};
+use model::sheet::{self, most, IN_FRONT, LONGEST_OLD};
 use model::{Device, Figures, Reading, Sample};
 
 /// xorshift64*.
@@ -139,8 +141,9 @@ pub fn sheet(f: &Figures) -> Vec<u8> {
 }
 
 /// Where the counts stand, and where each figure stands with its largest magnitude.
-fn layout(f: &Figures) -> (Vec<usize>, Vec<(usize, i64)>) {
-    let sections: [(&[i64], u8); 5] = [
+fn layout(f: &Figures, new: bool) -> (Vec<usize>, Vec<(usize, i64)>) {
+    let sections: [(&[i64], u8); 6] = [
+        (&[most::SERIAL, most::DAY], 1),
         (&[most::COFS, most::CGAI, most::CELL, most::CELL], 1),
         (&[most::CT, most::CTO, most::CTG], f.ctn),
         (&[most::CELL, most::CLK], f.cln),
@@ -148,7 +151,7 @@ fn layout(f: &Figures) -> (Vec<usize>, Vec<(usize, i64)>) {
         (&[most::FFLV, most::FFST], 1),
     ];
     let (mut at, mut counts, mut places) = (0, Vec::new(), Vec::new());
-    for (figures, times) in sections {
+    for (figures, times) in sections.into_iter().skip(usize::from(!new)) {
         counts.push(at);
         at += 1;
         for most in figures.repeat(times.into()) {
@@ -159,10 +162,10 @@ fn layout(f: &Figures) -> (Vec<usize>, Vec<(usize, i64)>) {
     (counts, places)
 }
 
-/// Spoil a good sheet in one to three places close to each other. Some stay good.
-fn damage(rng: &mut Rng, sheet: &mut Vec<u8>, f: &Figures) {
-    let (counts, places) = layout(f);
-    let first = rng.below(places.len() as u64) as usize;
+/// Spoil a good sheet in one to three places close to each other, of a new one often in front. Some stay good.
+fn damage(rng: &mut Rng, sheet: &mut Vec<u8>, f: &Figures, new: bool) {
+    let (counts, places) = layout(f, new);
+    let first = if new && rng.one_in(3) { 0 } else { rng.below(places.len() as u64) as usize };
     for _ in 0..rng.range(1, 3) {
         let (at, most) = places[(first + rng.below(3) as usize) % places.len()];
         let figure = i64::from_le_bytes(sheet[at..at + 8].try_into().expect("eight bytes"));
@@ -210,7 +213,7 @@ pub fn float_bits(rng: &mut Rng) -> u32 {
     neighbour ^ rng.pick(&[0, 0, 0x8000_0000])
 }
 
-/// A call on one device, but for the last.
+/// A call on one device, but for the last two.
 pub enum Call {
     Make(Vec<u8>, u8),
     Reading(Sample),
@@ -219,6 +222,8 @@ pub enum Call {
     Frame(Vec<u8>, usize),
     /// A reading at each of the four.
     Weigh([Sample; 4]),
+    /// A call on sheets, and on no device.
+    Sheets(Task),
 }
 
 /// Makes one call after another, on four devices.
@@ -243,9 +248,14 @@ impl Calls {
         }
         let call = if let Some(unmade) = devices.iter().position(|d| d.station == 0) {
             self.at = unmade;
-            Call::Make(sheet(&figures(&mut self.rng)), self.rng.range(1, 247) as u8)
+            let old = sheet(&figures(&mut self.rng));
+            let new = self.rng.one_in(2);
+            let bytes = if new { with_identity(identity(&mut self.rng), &old) } else { old };
+            Call::Make(bytes, self.rng.range(1, 247) as u8)
         } else if self.rng.one_in(12) {
             Call::Weigh(platform::samples(&mut self.rng, devices))
+        } else if self.rng.one_in(10) {
+            Call::Sheets(laboratory::task(&mut self.rng))
         } else {
             self.call(&devices[self.at], quiet)
         };
@@ -277,16 +287,23 @@ impl Calls {
     }
 }
 
-fn make(rng: &mut Rng) -> Call {
-    let f = figures(rng);
-    let mut bytes = sheet(&f);
-    match rng.below(12) {
+/// A sheet of either form: some are good, most are damaged.
+fn some_sheet(rng: &mut Rng) -> Vec<u8> {
+    let (f, new) = (figures(rng), rng.one_in(2));
+    let mut bytes = if new { with_identity(identity(rng), &sheet(&f)) } else { sheet(&f) };
+    match rng.below(14) {
         0 | 1 => {}
         2 => bytes.truncate(rng.below(bytes.len() as u64 + 1) as usize),
         3 => bytes.resize(bytes.len() + rng.range(1, 20) as usize, rng.bits() as u8),
-        _ => damage(rng, &mut bytes, &f),
+        4 if new => bytes.truncate(rng.below(IN_FRONT as u64 + 2) as usize),
+        5 if new => bytes = with_identity(identity(rng), &bytes),
+        _ => damage(rng, &mut bytes, &f, new),
     }
-    Call::Make(bytes, if rng.one_in(6) { rng.pick(&[0, 1, 247, 248, 255]) } else { rng.range(1, 247) as u8 })
+    bytes
+}
+
+fn make(rng: &mut Rng) -> Call {
+    Call::Make(some_sheet(rng), if rng.one_in(6) { rng.pick(&[0, 1, 247, 248, 255]) } else { rng.range(1, 247) as u8 })
 }
 
 /// Two neighbouring points of a table.

@@ -163,9 +163,7 @@ pub fn read(sheet: &[u8]) -> Result<Contents> {
 
 /// What stands behind the count 4 of the cell's section, up to the sheet's end.
 fn figures(s: &mut Cursor) -> Result<Figures> {
-    let mut f = Figures::default();
-
-    f.cofs = s.figure(most::COFS)?;
+    let mut f = Figures { cofs: s.figure(most::COFS)?, ..Figures::default() };
     f.cgai = s.figure(most::CGAI)?;
     f.cmin = s.figure(most::CELL)?;
     f.cmax = s.figure(most::CELL)?;

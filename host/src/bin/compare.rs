@@ -1,16 +1,18 @@
 //! compare CALLS SEED: the same generated calls on the model and on the archive, with four devices each; then, on the
 //! archive, devices that are pulled beside those that are pushed.
 //!
-//! Compared: numbers, lengths, every byte of and around the lent buffer, report bits, weights, the whole
-//! record in steps, the waiting copy too, of each device that the call was on, a read of each register of
-//! 01 and of some of the panel's after each call, and that a refused call keeps the record, one of a
-//! platform all four (a refused making leaves zeros).
+//! Compared: numbers, lengths, every byte of and around the lent buffers, report bits, weights, what a sheet holds, the
+//! whole record in steps, the waiting copy too, of each device that the call was on, a read of each register of 01 and
+//! of some of the panel's after each call, and that a refused call keeps the record, one of a platform all four (a
+//! refused making leaves zeros).
 
+use host::generate::laboratory::{Reached, Task};
 use host::generate::{Call, Calls};
 use host::mirror::{self, Mirrored};
 use host::tool::{run, Failure};
-use host::{panel_registers, read_frame, Converter, Other, APPLY, REGISTERS, WITH_ARCHIVE};
-use model::{Figures, Refusal, Sample, Weights};
+use host::{panel_registers, read_frame, Converter, Laboratory, Other, APPLY, REGISTERS, WITH_ARCHIVE};
+use model::sheet::{NEW, OLD};
+use model::{Contents, Figures, Refusal, Sample, Weights};
 use std::process::ExitCode;
 
 /// Bytes kept on either side of a lent buffer.
@@ -23,19 +25,31 @@ struct Outcome {
     length: usize,
     report: [u32; 4],
     buffer: Vec<u8>,
+    scratch: Vec<u8>,
     weights: Weights,
+    /// Of a sheet that was read; of one that was moved back the identity alone.
+    contents: Contents,
     /// A refused call kept the record; a refused making left zeros.
     kept: bool,
 }
 
 impl Outcome {
     fn new() -> Outcome {
-        Outcome { number: 0, length: 0, report: [0; 4], buffer: Vec::new(), weights: Weights::default(), kept: true }
+        Outcome {
+            number: 0,
+            length: 0,
+            report: [0; 4],
+            buffer: Vec::new(),
+            scratch: Vec::new(),
+            weights: Weights::default(),
+            contents: Contents::default(),
+            kept: true,
+        }
     }
 }
 
-/// A call on the device at this place, or on all four.
-fn perform<C: Converter>(devices: &mut [C; 4], at: usize, call: &Call, fill: u8) -> Outcome {
+/// A call on the device at this place, on all four, or on a sheet.
+fn perform<C: Converter + Laboratory>(devices: &mut [C; 4], at: usize, call: &Call, fill: u8) -> Outcome {
     let device = &mut devices[at];
     let before = device.clone();
     let mut o = Outcome::new();
@@ -54,13 +68,47 @@ fn perform<C: Converter>(devices: &mut [C; 4], at: usize, call: &Call, fill: u8)
             o.kept = *device == before;
         }
         Call::Frame(frame, room) => {
-            o.buffer = vec![fill; room + 2 * MARGIN];
-            (o.number, o.length) = device.frame(frame, &mut o.buffer[MARGIN..MARGIN + room]);
+            o.buffer = around(*room, fill);
+            (o.number, o.length) = device.frame(frame, lent(&mut o.buffer));
         }
         Call::Weigh(samples) => return weigh(devices, *samples),
+        Call::Sheets(task) => return on_sheets::<C>(task, fill),
     }
     if o.number != 0 {
         o.kept = *device == before;
+    }
+    o
+}
+
+/// A lent buffer and the bytes on either side of it.
+fn around(room: usize, fill: u8) -> Vec<u8> {
+    vec![fill; room + 2 * MARGIN]
+}
+
+/// What is lent of it.
+fn lent(buffer: &mut [u8]) -> &mut [u8] {
+    let end = buffer.len() - MARGIN;
+    &mut buffer[MARGIN..end]
+}
+
+fn on_sheets<C: Laboratory>(task: &Task, fill: u8) -> Outcome {
+    let mut o = Outcome::new();
+    match task {
+        Task::Judge { sheet } => o.number = C::judge_sheet(sheet),
+        Task::Read { sheet } => (o.number, o.contents) = C::read_sheet(sheet),
+        Task::Write { figures, room } => {
+            o.buffer = around(*room, fill);
+            (o.number, o.length) = C::write_sheet(figures, lent(&mut o.buffer));
+        }
+        Task::ToNew { sheet, identity, room, scratch } => {
+            (o.buffer, o.scratch) = (around(*room, fill), around(*scratch, !fill));
+            (o.number, o.length) = C::move_to_new(sheet, *identity, lent(&mut o.buffer), lent(&mut o.scratch));
+        }
+        Task::ToOld { sheet, room, scratch } => {
+            (o.buffer, o.scratch) = (around(*room, fill), around(*scratch, !fill));
+            (o.number, o.length, o.contents.identity) =
+                C::move_to_old(sheet, lent(&mut o.buffer), lent(&mut o.scratch));
+        }
     }
     o
 }
@@ -88,6 +136,7 @@ fn describe(call: &Call) -> String {
         Call::Report => "report".into(),
         Call::Frame(frame, room) => format!("frame {frame:02x?} {room}"),
         Call::Weigh(samples) => format!("weigh {samples:?}"),
+        Call::Sheets(task) => format!("{task:02x?}"),
     }
 }
 
@@ -150,7 +199,7 @@ impl Reads {
 
 const CORNER_REFUSED: usize = Refusal::CornerRefused as usize;
 /// With 0, of accepted calls.
-const NUMBERS: usize = CORNER_REFUSED + 1;
+const NUMBERS: usize = Refusal::Buffers as usize + 1;
 
 /// What the calls were.
 #[derive(Default)]
@@ -167,6 +216,9 @@ struct Seen {
     weighed: u64,
     spoiled: [u64; 4],
     several: u64,
+    /// Makings of a first count of 4, of 2, and of another or none: accepted, and refused.
+    made: [[u64; 2]; 3],
+    sheets: Reached,
 }
 
 /// The inputs of the devices that take a reading where a call is accepted.
@@ -185,6 +237,11 @@ impl Seen {
         self.numbers[usize::from(number)] += 1;
         match call {
             Call::Weigh(samples) => self.weigh(samples, number, before),
+            Call::Sheets(task) => self.sheets.add(task, number),
+            Call::Make(sheet, _) => {
+                let form = [OLD, NEW].iter().position(|count| sheet.first() == Some(count)).unwrap_or(2);
+                self.made[form][usize::from(number != 0)] += 1;
+            }
             Call::Frame(frame, _) if number == 0 => {
                 self.applied += u64::from(frame[1] == 16 && frame[2..4] == (2 * APPLY).to_be_bytes());
             }
@@ -237,6 +294,9 @@ impl Seen {
         let [one, two, three, four] = self.spoiled;
         println!("four corners: {} calls accepted, {} refused with 18", self.weighed, self.numbers[CORNER_REFUSED]);
         println!("              for corner 1 alone {one}, 2 {two}, 3 {three}, 4 {four}; for several {}", self.several);
+        let [old, new, none] = self.made.map(|[accepted, refused]| format!("{accepted} accepted, {refused} refused"));
+        println!("makings: of old sheets {old}; of new ones {new}; of neither {none}");
+        println!("{}", self.sheets);
     }
 }
 
