@@ -5,6 +5,7 @@
 #[cfg(feature = "archive")]
 #[allow(unsafe_code)] // the library's C interface
 pub mod archive;
+pub mod calendar;
 pub mod generate;
 pub mod line;
 pub mod mirror;

@@ -1,6 +1,9 @@
 //! How a tool starts and ends: help on standard output; what was wrong, as a sentence on standard error; never a panic.
 
-use std::io::{self, Write};
+use model::sheet::LONGEST_NEW;
+use model::Figures;
+use std::fs::File;
+use std::io::{self, Read, Write};
 use std::{env, process::ExitCode};
 
 /// Why a tool did not do its work.
@@ -15,6 +18,17 @@ pub enum Failure {
 /// Of something with a name, such as a file: what the system said.
 pub fn failed(name: &str) -> impl Fn(io::Error) -> Failure + '_ {
     move |e| Failure::Said(format!("{name}: {e}"))
+}
+
+/// The bytes of a sheet's file, or of 001's default sheet. One byte past the longest is enough to see that bytes trail.
+pub fn sheet_bytes(sheet: &str) -> Result<Vec<u8>, Failure> {
+    if sheet == "default" {
+        return Ok(crate::generate::sheet(&Figures::standard()));
+    }
+    let mut bytes = Vec::new();
+    let file = File::open(sheet).map_err(failed(sheet))?;
+    file.take(LONGEST_NEW as u64 + 1).read_to_end(&mut bytes).map_err(failed(sheet))?;
+    Ok(bytes)
 }
 
 /// Run a tool on its arguments. It ends with 0 if all was right, with 1 if it was not or was not to be known, with 2 on bad usage.

@@ -2,10 +2,13 @@
 //!
 //! The line runs at 600 baud, where t3.5 is 64 ms, so that a busy machine does not blur gaps and silences.
 
+use host::generate::laboratory::with_identity;
+use host::generate::sheet;
 use host::line::silence;
 use host::pty::{open_slave, wait};
 use host::{read_frame, sealed, write_frame};
-use std::fs::File;
+use model::{Figures, Identity};
+use std::fs::{self, File};
 use std::io::{BufRead, BufReader, Read, Write};
 use std::os::fd::AsFd;
 use std::process::{Child, Command, Output, Stdio};
@@ -54,8 +57,12 @@ impl Bus {
 
     /// The default sheet, and these arguments.
     fn with(arguments: &[&str]) -> Bus {
+        Bus::of("default", arguments)
+    }
+
+    fn of(sheet: &str, arguments: &[&str]) -> Bus {
         let baud = BAUD.to_string();
-        let mut command = command(&[&["default", "--baud", &baud], arguments].concat());
+        let mut command = command(&[&[sheet, "--baud", &baud], arguments].concat());
         let mut simulator = command.stdin(Stdio::piped()).spawn().expect("converter-sim starts");
         let mut name = String::new();
         let out = simulator.stdout.take().expect("its standard output");
@@ -350,6 +357,54 @@ fn a_rig_begins_to_push() {
     assert_eq!(said[..51], ["weigh: 0, total 0 left 0 right 0 difference 0"; 51]);
     // A thirtieth of 50 % at each.
     assert_eq!(said[51], "weigh: 0, total 436904 left 218452 right 218452 difference 0");
+}
+
+/// The name of a file with these bytes.
+fn file(name: &str, bytes: &[u8]) -> String {
+    let path = format!("{}/{name}", env!("CARGO_TARGET_TMPDIR"));
+    fs::write(&path, bytes).expect("written");
+    path
+}
+
+/// The default sheet with an identity in front.
+fn identified(serial: i64, day: i64) -> Vec<u8> {
+    with_identity(Identity { serial, day }, &sheet(&Figures::standard()))
+}
+
+/// Change 6 of paper 02: "Both are read and give the same device".
+#[test]
+fn a_sheet_with_an_identity_is_served() {
+    let path = file("identified.sheet", &identified(1_234_567, 9_816));
+    let mut bus = Bus::of(&path, &["52", "--readings", "-", "--verbose"]);
+    bus.hand_in(READING);
+    assert_eq!(bus.exchange(&read_frame(STATION, SYS)), HUNDRED);
+    assert_eq!(bus.said()[0], "sheet: serial 1234567, day 9816 (2026-11-16)");
+    // Without --verbose, and of an old sheet, nothing is said.
+    let old = file("old.sheet", &sheet(&Figures::standard()));
+    for (sheet, arguments) in [(&path, &["52", "--readings", "-"][..]), (&old, &["52", "--readings", "-", "--verbose"])]
+    {
+        assert_eq!(Bus::of(sheet, arguments).said(), [""; 0]);
+    }
+}
+
+/// Five and seven points: 342 bytes, and one more.
+#[test]
+fn the_longest_sheet_is_read_whole() {
+    let mut f = Figures { ctn: 5, cln: 7, ..Figures::standard() };
+    f.temperature.iter_mut().zip(0..).for_each(|(point, i)| point.ct = i << 16);
+    f.linearity.iter_mut().zip(0..).for_each(|(point, i)| point.clx = i << 16);
+    let longest = with_identity(Identity { serial: 4_294_967_295, day: 65_535 }, &sheet(&f));
+    assert_eq!(longest.len(), 342);
+    let mut bus = Bus::of(&file("342.sheet", &longest), &["52", "--readings", "-"]);
+    bus.hand_in(READING);
+    assert_eq!(bus.exchange(&read_frame(STATION, SYS)), HUNDRED);
+    let refused = |name, bytes: &[u8]| ended(&[&file(name, bytes), "52"]);
+    let trailing = refused("343.sheet", &[&longest[..], &[0]].concat());
+    assert_eq!((trailing.0, trailing.1.lines().next()), (Some(1), Some("refused 7")));
+    let late = refused("late.sheet", &identified(0, 65_536));
+    assert_eq!((late.0, late.1.lines().next()), (Some(1), Some("refused 3")));
+    let twice = refused("twice.sheet", &with_identity(Identity::default(), &identified(0, 0)));
+    assert_eq!((twice.0, twice.1.lines().next()), (Some(1), Some("refused 2")));
 }
 
 fn ended(arguments: &[&str]) -> (Option<i32>, String) {

@@ -13,6 +13,7 @@ const REPLAY: &str = env!("CARGO_BIN_EXE_replay");
 const COMPARE: &str = env!("CARGO_BIN_EXE_compare");
 const MEASURE: &str = env!("CARGO_BIN_EXE_measure");
 const BENCH: &str = env!("CARGO_BIN_EXE_bench");
+const SHEET: &str = env!("CARGO_BIN_EXE_sheet");
 
 /// The status, standard output and standard error of a tool with this standard input.
 fn run(tool: &str, arguments: &[&str], input: Stdio, output: Stdio) -> (Option<i32>, String, String) {
@@ -168,6 +169,82 @@ fn bench_without_input_or_output() {
     let full = File::options().write(true).open("/dev/full").expect("opened").into();
     let (code, _, said) = run(BENCH, &[], Stdio::null(), full);
     assert_eq!((code, said.as_str()), (Some(1), "standard output: No space left on device (os error 28)\n"));
+}
+
+/// It says this, in one line, and ends with 0.
+fn says(tool: &str, arguments: &[&str], said: &str) {
+    let found = run(tool, arguments, Stdio::null(), Stdio::piped());
+    assert_eq!(found, (Some(0), format!("{said}\n"), String::new()), "{tool} {arguments:?}");
+}
+
+/// A sheet goes to the new form and back, in files; the bytes behind the identity and those given back are the first ones.
+#[test]
+fn a_sheet_is_moved_there_and_back() {
+    let paths = ["new.sheet", "old.sheet", "again.sheet", "none.sheet"].map(place);
+    for path in &paths {
+        let _ = fs::remove_file(path);
+    }
+    let [new, old, again, none] = paths.each_ref().map(|path| path.to_str().expect("text"));
+    let by_date = ["to-new", "default", "1234567", "2026-11-16", new];
+    says(SHEET, &by_date, &format!("{new}: new form, 190 bytes, serial 1234567, day 9816 (2026-11-16)"));
+    let had = "it had serial 1234567, day 9816 (2026-11-16)";
+    says(SHEET, &["to-old", new, old], &format!("{old}: old form, 173 bytes; {had}"));
+    let [new_bytes, old_bytes] = [new, old].map(|path| fs::read(path).expect("a file"));
+    let identity = [&[2][..], &1_234_567_i64.to_le_bytes(), &9_816_i64.to_le_bytes()].concat();
+    assert_eq!((&new_bytes[..17], &new_bytes[17..]), (&identity[..], &old_bytes[..]));
+    says(SHEET, &["to-new", old, "1234567", "9816", again], &format!("{again}: new form, 190 bytes, {}", &had[7..]));
+    assert_eq!(fs::read(again).expect("a file"), new_bytes);
+    for sheet in ["default", new, old] {
+        says(SHEET, &["judge", sheet], "0 accepted");
+    }
+    // A file that is there stays as it is.
+    fails(SHEET, &["to-old", new, again], 1, &format!("{again}: File exists (os error 17)"));
+    assert_eq!(fs::read(again).expect("a file"), new_bytes);
+    // What is turned down leaves no file behind.
+    let turned_down: [(&[&str], u8); 6] = [
+        (&["to-new", new, "1", "2", none], 2),
+        (&["to-old", old, none], 2),
+        (&["to-new", old, "4294967296", "2", none], 3),
+        (&["to-new", old, "-1", "2", none], 3),
+        (&["to-new", old, "1", "65536", none], 3),
+        (&["to-new", "/dev/null", "1", "2", none], 1),
+    ];
+    for (arguments, number) in turned_down {
+        let (code, said, wrong) = run(SHEET, arguments, Stdio::null(), Stdio::piped());
+        assert_eq!((code, said.as_str(), none), (Some(1), "", none), "{arguments:?}");
+        assert!(wrong.starts_with(&format!("refused {number}\n")) && !Path::new(none).exists(), "{wrong}");
+    }
+}
+
+#[test]
+fn a_sheet_is_shown() {
+    let (code, said, _) = run(SHEET, &["show", "default"], Stdio::null(), Stdio::piped());
+    let lines: Vec<&str> = said.lines().collect();
+    assert_eq!((code, lines.len(), lines[0]), (Some(0), 16, "old form, 173 bytes, no identity"));
+    assert_eq!(lines[2..4], ["CGAI 268435456 (1)", "CMIN -9830400 (-150)"]);
+    assert_eq!(lines[6], "CT2 1638400 (25), CTO2 0 (0), CTG2 0 (0)");
+    assert_eq!(lines[15], "FFST 0");
+    let (code, said, wrong) = run(SHEET, &["show", "/dev/null"], Stdio::null(), Stdio::piped());
+    assert_eq!((code, said.as_str(), wrong.starts_with("refused 1\nshort sheet")), (Some(1), "", true));
+}
+
+#[test]
+fn bad_usage_of_sheet() {
+    let wrong: [&[&str]; 7] = [
+        &[],
+        &["judge"],
+        &["show", "default", "default"],
+        &["to-new", "default", "x", "0", "out"],
+        &["to-new", "default", "1", "2026-02-29", "out"],
+        &["to-new", "default", "1", "1999-12-31", "out"],
+        &["to-old", "default"],
+    ];
+    for arguments in wrong {
+        let (code, said, usage) = run(SHEET, arguments, Stdio::null(), Stdio::piped());
+        assert_eq!((code, said.as_str()), (Some(2), ""), "{arguments:?}");
+        assert!(usage.starts_with("usage: sheet judge SHEET"), "{usage}");
+    }
+    fails(SHEET, &["judge", "nosuch"], 1, "nosuch: No such file or directory (os error 2)");
 }
 
 #[test]

@@ -1,17 +1,18 @@
 //! converter-sim SHEET STATION: the proved converter, or a platform's four, as Modbus RTU devices on a pseudo-terminal.
 
 use host::archive::Device;
+use host::calendar::shown;
 use host::line::Line;
 use host::pty::Pty;
 use host::readings::Profile;
 use host::refusals::meaning;
 use host::served::Served;
 use host::simulator::{Simulator, Source};
-use host::tool::{failed, run, Failure};
-use model::sheet::LONGEST_NEW;
-use model::Figures;
-use std::fs::File;
-use std::io::{self, Read, Write};
+use host::tool::{failed, run, sheet_bytes, Failure};
+use host::Laboratory;
+use model::sheet::NEW;
+use model::Contents;
+use std::io::{self, Write};
 use std::os::fd::AsFd;
 use std::process::ExitCode;
 
@@ -19,7 +20,7 @@ const USAGE: &str = "\
 converter-sim SHEET STATION [--platform] [--profile fill|still|rig|lorry | --readings -] [--baud N] [--verbose]
 
 Serves Modbus RTU on a pseudo-terminal, whose name it prints.
-  SHEET              a file of sheet bytes, or the word default: 001's default sheet
+  SHEET              a file of sheet bytes, of either form, or the word default: 001's default sheet
   STATION            1 to 247
   --platform         four devices of the sheet, for corners 1 to 4 of a platform, at STATION to STATION + 3
   --profile fill     a hopper that fills and empties in 60 s, 10 readings a second (the default)
@@ -29,7 +30,8 @@ Serves Modbus RTU on a pseudo-terminal, whose name it prints.
   --readings -       readings from standard input, a line each: ELEC TEMP INTEGRITY, in steps of 1/65536;
                      with --platform a line has those of corners 1 to 4, 12 numbers
   --baud N           the rate that t3.5, the silence behind a frame, is taken from (9600)
-  --verbose          each frame, its number and the reply, and the weights of a platform, on standard error";
+  --verbose          serial and day of a new sheet, each frame, its number and the reply, and the weights of a
+                     platform, on standard error";
 
 struct Arguments {
     sheet: String,
@@ -69,21 +71,22 @@ fn arguments(words: impl Iterator<Item = String>) -> Option<Arguments> {
     Some(Arguments { sheet, station, platform, baud, profile, verbose })
 }
 
-/// The sheet's bytes. One byte past the longest sheet is enough to see that bytes trail.
-fn sheet_bytes(sheet: &str) -> io::Result<Vec<u8>> {
-    if sheet == "default" {
-        return Ok(host::generate::sheet(&Figures::standard()));
+/// Of a new sheet who it is for, on standard error.
+fn say_identity(sheet: &[u8]) {
+    let (_, Contents { form, identity, .. }) = Device::read_sheet(sheet);
+    if form == NEW {
+        let _ = writeln!(io::stderr(), "sheet: {}", shown(identity));
     }
-    let mut bytes = Vec::new();
-    File::open(sheet)?.take(LONGEST_NEW as u64 + 1).read_to_end(&mut bytes)?;
-    Ok(bytes)
 }
 
 fn serve(a: &Arguments) -> Result<bool, Failure> {
-    let sheet = sheet_bytes(&a.sheet).map_err(failed(&a.sheet))?;
+    let sheet = sheet_bytes(&a.sheet)?;
     let made = if a.platform { Served::<Device>::platform } else { Served::one };
     let served =
         made(&sheet, a.station).map_err(|number| Failure::Said(format!("refused {number}\n{}", meaning(number))))?;
+    if a.verbose {
+        say_identity(&sheet);
+    }
     let source = match a.profile {
         Some(profile) => Source::profile(profile),
         // Not std's own reader: what that has buffered, poll does not see.
