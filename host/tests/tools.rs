@@ -1,5 +1,7 @@
 //! The tools on bad input: one plain sentence on standard error and a failing status, never a panic.
 
+use host::generate::sheet;
+use model::Figures;
 use std::ffi::OsString;
 use std::fs::{self, File};
 use std::path::{Path, PathBuf};
@@ -92,11 +94,10 @@ fn malformed_lines() {
         ("make +1 1 = 0", "not hexadecimal bytes: +1"),
         ("make é 1 = 0", "not hexadecimal bytes: é"),
         ("make - 256 = 0", "not a station: 256"),
-        ("reading x 0 0 = 0", "not ELEC: x"),
-        ("reading 0 9223372036854775808 0 = 0", "not TEMP: 9223372036854775808"),
-        ("reading 0 0 -1 = 0", "not an integrity byte: -1"),
-        ("frame - x = 0", "not a room of 0 to 65535: x"),
-        ("frame - 99999999999999999999 = 0", "not a room of 0 to 65535: 99999999999999999999"),
+        ("reading 0 0 0 = 0", "a device that was not made: 1"),
+        ("frame - 9 = 13 0 a5a5a5a5a5a5a5a5a5", "a device that was not made: 1"),
+        ("write 1 x = 0", "not a room of 0 to 65535: x"),
+        ("write 1 99999999999999999999 = 0", "not a room of 0 to 65535: 99999999999999999999"),
         ("use x", "not a device: x"),
         ("use 0", "not a device of 1 to 8: 0"),
         ("use 9", "not a device of 1 to 8: 9"),
@@ -124,6 +125,19 @@ fn malformed_lines() {
     for (i, (line, wrong)) in table.into_iter().enumerate() {
         let path = place(&format!("malformed-{i}.txt"));
         fs::write(&path, format!("scenario one\n{line}\n")).expect("written");
+        let path = path.to_str().expect("text");
+        fails(REPLAY, &[path], 1, &format!("{path}: line 2: {wrong}"));
+    }
+    let sheet: String = sheet(&Figures::standard()).iter().map(|byte| format!("{byte:02x}")).collect();
+    let table = [
+        ("reading x 0 0 = 0", "not ELEC: x"),
+        ("reading 0 9223372036854775808 0 = 0", "not TEMP: 9223372036854775808"),
+        ("reading 0 0 -1 = 0", "not an integrity byte: -1"),
+        ("frame zz 9 = 0", "not hexadecimal bytes: zz"),
+    ];
+    for (i, (line, wrong)) in table.into_iter().enumerate() {
+        let path = place(&format!("malformed-of-device-{i}.txt"));
+        fs::write(&path, format!("make {sheet} 1 = 0\n{line}\n")).expect("written");
         let path = path.to_str().expect("text");
         fails(REPLAY, &[path], 1, &format!("{path}: line 2: {wrong}"));
     }

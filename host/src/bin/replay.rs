@@ -183,6 +183,10 @@ fn corners<C: Converter>(devices: &mut [C], words: &[&str]) -> Result<String, St
 /// What a call gives, as a line of the vectors has it; or what is wrong with the line.
 fn found<C: Converter + Laboratory>(scenario: &mut Scenario<C>, words: &[&str]) -> Result<String, String> {
     let device = &mut scenario.devices[scenario.meant];
+    // A record of zeros is no device, and nothing but a making may be given it.
+    if matches!(words, ["reading" | "frame", ..]) && *device == C::default() {
+        return Err(format!("a device that was not made: {}", scenario.meant + 1));
+    }
     Ok(match *words {
         ["make", sheet, station] => make(device, &bytes(sheet)?, parsed(station, "a station")?),
         ["reading", elec, temp, integrity] => {
