@@ -22,12 +22,12 @@
  * Who finds the frames: the caller. On the line a frame ends with a silence of 3.5 characters (t3.5); hand over what
  * stood between two silences, whole, and send the reply, if there is one, after the next.
  *
- * Symbols that libboard.a needs: memset. Symbols that liblaboratory.a needs: memset. (The caller's compiler may ask for
- * memcpy, to assign a record.)
+ * Symbols that libboard.a needs: memset. Symbols that liblaboratory.a needs: memcpy, memset. (The caller's compiler may
+ * ask for memcpy, to assign a record.)
  * Bytes of stack of libboard.a, at most, return address and red zone included: converter_make 1536, and what memset
  * takes; converter_reading 128; converter_report 64; converter_frame 1536; converter_weigh 256.
- * Bytes of stack of liblaboratory.a, likewise: converter_judge_sheet 512; converter_read_sheet 1024;
- * converter_write_sheet 1536; converter_move_to_new 1024; converter_move_to_old 1024. */
+ * Bytes of stack of liblaboratory.a, likewise, and what memcpy and memset take: converter_judge_sheet 2048;
+ * converter_read_sheet 3072; converter_write_sheet 1024; converter_move_to_new 2048; converter_move_to_old 2048. */
 #ifndef CONVERTER_H
 #define CONVERTER_H
 
