@@ -48,7 +48,7 @@ fn bad_usage() {
         (COMPARE, "compare CALLS SEED", &[&[], &["1"], &["1", "x"], &["0", "1"], &["-1", "1"], &["1", "x", "1"]]),
         (
             MEASURE,
-            "measure [default|full|corners|corners-full|read|write|figure|panel|apply|reset|exception \
+            "measure [default|full|corners|corners-full|read|write|figure|panel|apply|reset|exception|make|make-new|to-new|to-old \
              N [model|archive]] (archive: only if linked)",
             &[&["nosuch"], &["read"], &["nosuch", "1"], &["read", "0"], &["apply", "x"], &["read", "1", "x"]],
         ),

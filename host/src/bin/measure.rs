@@ -1,17 +1,18 @@
 //! measure: a table of ns per call for each kind of call, and the sizes of the records.
 //! measure KIND N [model|archive]: runs one kind N times; host/benchmark counts its instructions.
 
+use host::generate::laboratory::with_identity;
 use host::generate::{sheet, Rng};
 use host::tool::{run, Failure};
-use host::{read_frame, write_frame, Converter, Other, APPLY, RST, WITH_ARCHIVE};
+use host::{read_frame, write_frame, Converter, Laboratory, Other, APPLY, RST, WITH_ARCHIVE};
 use model::panel::{Row, ROWS};
-use model::sheet::{most, LinearityPoint, TemperaturePoint};
+use model::sheet::{most, LinearityPoint, TemperaturePoint, LONGEST_NEW, SCRATCH};
 use model::value::{scaled, Range, WHOLE};
-use model::{Figures, Sample};
+use model::{Figures, Identity, Sample};
 use std::hint::black_box;
 use std::{mem::size_of, process::ExitCode, time::Instant};
 
-const KINDS: [(&str, &str); 11] = [
+const KINDS: [(&str, &str); 15] = [
     ("default", "reading, default sheet"),
     ("full", "reading, full tables, filter on"),
     ("corners", "four corners, default sheet"),
@@ -23,11 +24,16 @@ const KINDS: [(&str, &str); 11] = [
     ("apply", "write frame (99, full tables in force)"),
     ("reset", "write frame (RST)"),
     ("exception", "read frame refused (no such register)"),
+    ("make", "making, full tables, old sheet"),
+    ("make-new", "making, full tables, new sheet"),
+    ("to-new", "moving a sheet to the new form, full tables"),
+    ("to-old", "moving it back"),
 ];
 const USAGE: &str = "\
-measure [default|full|corners|corners-full|read|write|figure|panel|apply|reset|exception N [model|archive]] \
-(archive: only if linked)";
+measure [default|full|corners|corners-full|read|write|figure|panel|apply|reset|exception|make|make-new|to-new|to-old \
+N [model|archive]] (archive: only if linked)";
 const STATION: u8 = 52;
+const IDENTITY: Identity = Identity { serial: 1_234_567, day: 9_816 };
 
 /// Five and seven points and a filter that smooths every reading.
 fn full() -> Figures {
@@ -69,7 +75,7 @@ fn frame(kind: &str, i: u16) -> Vec<u8> {
 }
 
 /// The seconds that n calls of a kind took. All is done to the first of four devices, or to each.
-fn calls<C: Converter>(kind: &str, n: usize) -> f64 {
+fn calls<C: Converter + Laboratory>(kind: &str, n: usize) -> f64 {
     let mut rng = Rng::new(1);
     let figures = if matches!(kind, "full" | "corners-full" | "apply") { full() } else { Figures::standard() };
     let mut devices = [(); 4].map(|()| C::default());
@@ -80,10 +86,16 @@ fn calls<C: Converter>(kind: &str, n: usize) -> f64 {
     let samples: Vec<Sample> =
         (0..1_024).map(|_| (rng.range(-9_000_000, 9_000_000), rng.range(-1_310_720, 3_932_160), 0)).collect();
     let frames: Vec<Vec<u8>> = (0..1_024).map(|i| frame(kind, i)).collect();
+    let old = sheet(&full());
+    let new = with_identity(IDENTITY, &old);
     let start = Instant::now();
     let others = match kind {
         "default" | "full" => readings(&mut devices[0], samples.iter().cycle().take(n)),
         "corners" | "corners-full" => weighings(&mut devices, samples.as_chunks().0.iter().cycle().take(n)),
+        "make" => (0..n).filter(|_| devices[0].make(black_box(&old), STATION) != 0).count(),
+        "make-new" => (0..n).filter(|_| devices[0].make(black_box(&new), STATION) != 0).count(),
+        "to-new" => moves(n, |out, scratch| C::move_to_new(black_box(&old), IDENTITY, out, scratch).0),
+        "to-old" => moves(n, |out, scratch| C::move_to_old(black_box(&new), out, scratch).0),
         _ => answers(&mut devices[0], frames.iter().cycle().take(n), if kind == "exception" { NO_SUCH } else { 0 }),
     };
     let seconds = start.elapsed().as_secs_f64();
@@ -100,6 +112,17 @@ fn readings<'a, C: Converter>(device: &mut C, samples: impl Iterator<Item = &'a 
 /// How many calls of four readings were refused.
 fn weighings<'a, C: Converter>(devices: &mut [C; 4], samples: impl Iterator<Item = &'a [Sample; 4]>) -> usize {
     samples.filter(|samples| black_box(C::weigh(devices.each_mut(), black_box(**samples))).0 != 0).count()
+}
+
+/// How many moves were refused.
+fn moves(n: usize, mut moved: impl FnMut(&mut [u8], &mut [u8]) -> u8) -> usize {
+    let (mut out, mut scratch) = ([0; LONGEST_NEW], [0; SCRATCH]);
+    let refused = |_: &usize| {
+        let number = moved(&mut out, &mut scratch);
+        black_box((&out, &scratch));
+        number != 0
+    };
+    (0..n).filter(refused).count()
 }
 
 /// How many frames had another number than the one due.
