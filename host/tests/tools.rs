@@ -225,7 +225,7 @@ fn a_sheet_is_moved_there_and_back() {
     ];
     for (arguments, number) in turned_down {
         let (code, said, wrong) = run(SHEET, arguments, Stdio::null(), Stdio::piped());
-        assert_eq!((code, said.as_str(), none), (Some(1), "", none), "{arguments:?}");
+        assert_eq!((code, said.as_str()), (Some(1), ""), "{arguments:?}");
         assert!(wrong.starts_with(&format!("refused {number}\n")) && !Path::new(none).exists(), "{wrong}");
     }
 }

@@ -35,7 +35,7 @@ pub struct Figures {
     pub ffst: i64,
 }
 
-/// Who was calibrated, and when: a serial number and the days after 1 January 2000.
+/// "serial number and day", the day in "days after 1 January 2000".
 #[derive(Clone, Copy, Debug, Default, PartialEq, Eq)]
 pub struct Identity {
     pub serial: i64,

@@ -71,7 +71,7 @@ fn arguments(words: impl Iterator<Item = String>) -> Option<Arguments> {
     Some(Arguments { sheet, station, platform, baud, profile, verbose })
 }
 
-/// Of a new sheet who it is for, on standard error.
+/// Of a new sheet its serial and day, on standard error: no register shows them.
 fn say_identity(sheet: &[u8]) {
     let (_, Contents { form, identity, .. }) = Device::read_sheet(sheet);
     if form == NEW {
