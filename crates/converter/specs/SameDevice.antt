@@ -3,6 +3,7 @@
 use mathlib.Core.Path.{_≡_}
 use mathlib.Core.List.{List, _∷_, _++_}
 use Prim.Native.Nat.{ℕ}
+use lib.ListN.{drop}
 use Rattle.sheet.specs.Forms.{identityBytes}
 use Rattle.sheet.specs.BothForms.{InRange}
 use Rattle.sheet.specs.declared.Identity.{Identity}
@@ -11,20 +12,16 @@ use Rattle.converter.specs.Call.{Call, run}
 use Rattle.converter.specs.Log.{logOf}
 use Rattle.converter.specs.Snapshot.{sysnOf}
 
--- "A first count of 4 marks the old sheet."
-module _ (i : Identity) (rest : List ℕ) where
-  abbrev pub oldSheet : List ℕ
-  oldSheet = 4 ∷ rest
+module _ (new old : List ℕ) (station : ℕ) where
+  pub record SameDevice : Type 0 where
+    -- the same number, and the same device
+    pub making : made new station ≡ made old station
+    pub running : (calls : List Call) → run (made new station .device) calls ≡ run (made old station .device) calls
+    pub logging : (calls : List Call) → logOf new station calls ≡ logOf old station calls
+    pub shooting : (calls : List Call) → sysnOf new station calls ≡ sysnOf old station calls
 
-  abbrev pub newSheet : List ℕ
-  newSheet = identityBytes i ++ oldSheet
-
-pub record SameDevice (i : Identity) (rest : List ℕ) (station : ℕ) : Type 0 where
-  -- the same number, and the same device
-  pub making : made (newSheet i rest) station ≡ made (oldSheet i rest) station
-  pub running : (calls : List Call) → run (made (newSheet i rest) station .device) calls ≡ run (made (oldSheet i rest) station .device) calls
-  pub logging : (calls : List Call) → logOf (newSheet i rest) station calls ≡ logOf (oldSheet i rest) station calls
-  pub shooting : (calls : List Call) → sysnOf (newSheet i rest) station calls ≡ sysnOf (oldSheet i rest) station calls
-
-abbrev pub SameDevices : Type 0
-SameDevices = (i : Identity) → InRange i → (rest : List ℕ) (station : ℕ) → SameDevice i rest station
+pub record SameDevices : Type 0 where
+  -- a sheet that begins with 4, and the same behind an identity
+  pub marked : (i : Identity) → InRange i → (rest : List ℕ) (station : ℕ) → SameDevice (identityBytes i ++ (4 ∷ rest)) (4 ∷ rest) station
+  -- an accepted sheet that begins with 2, and what stands behind its serial and day
+  pub unmarked : (rest : List ℕ) (station : ℕ) → made (2 ∷ rest) station .number ≡ 0 → SameDevice (2 ∷ rest) (drop 16 rest) station

@@ -19,13 +19,13 @@ use Rattle.sheet.specs.declared.Sheet.{Sheet}
 use Rattle.sheet.proofs.Chain.{then-stop}
 use Rattle.sheet.proofs.BothForms.{old-other, old-empty}
 use Rattle.sheet.proofs.EitherForm.{in-given}
-use Rattle.sheet.proofs.NewForm.{old-back}
+use Rattle.sheet.proofs.NewForm.{old-back, old-within, same-read}
 use Rattle.sheet_writer.specs.declared.Written.{Written}
 use Rattle.laboratory.specs.Moves.{toNew, toOld, front, after, buffersNumber, toNewNumber, toOldNumber, movedOf, movedBackOf, Buffers, MovedToNew, MovedToOld}
 use Rattle.laboratory.specs.Moving.{Lent, ToNew, ToOld, Moving}
 use Rattle.laboratory.specs.declared.moves.MovedBack.{MovedBack}
 use Rattle.laboratory.proofs.Fits.{new-length, fits-new, FitsOld, fits-old}
-use Rattle.laboratory.proofs.Told.{given-out, short-buffers, roomy-buffers, new-other, new-empty, old-told, new-told, old-within, same-read, new-identity}
+use Rattle.laboratory.proofs.Told.{given-out, short-buffers, roomy-buffers, new-other, new-empty, old-told, new-told, new-identity}
 
 -- ---- the lent buffers
 

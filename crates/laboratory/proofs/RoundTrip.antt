@@ -11,18 +11,18 @@ use Rattle.sheet.specs.Forms.{identityAt, sectionNumber, newNumber}
 use Rattle.sheet.specs.declared.Identity.{Identity}
 use Rattle.sheet.proofs.Chain.{then-none}
 use Rattle.sheet.proofs.EitherForm.{given-in, in-given, section-none}
-use Rattle.sheet.proofs.NewForm.{old-back, identity-back, new-judged, new-number, new-is}
+use Rattle.sheet.proofs.NewForm.{old-back, identity-back, new-judged, new-number, new-is, old-within}
 use Rattle.sheet_writer.specs.declared.Written.{Written}
 use Rattle.laboratory.specs.Moves.{toNew, MovedToNew, MovedToOld}
 use Rattle.laboratory.specs.RoundTrip.{ThereAndBack, BackAndThere, RoundTrip}
 use Rattle.laboratory.specs.declared.moves.MovedBack.{MovedBack}
 use Rattle.laboratory.proofs.Fits.{new-length, fits-new, fits-old}
-use Rattle.laboratory.proofs.Told.{new-identity, old-within}
+use Rattle.laboratory.proofs.Told.{new-identity}
 use Rattle.laboratory.proofs.Moving.{number-is, there, back-number, moving}
 
 module _ (s : List ℕ) (i : Identity) (a a′ b b′ c c′ d d′ : List ℕ) (went : Written) (back : MovedBack)
     (m : MovedToNew s i a a′ b b′ went) (z : went .number ≡ 0) (n : MovedToOld (take (went .length) a′) c c′ d d′ back) where
-  goes-back : ThereAndBack s i a a′ b b′ c c′ d d′ went back
+  goes-back : ThereAndBack s i c c′ d back
   goes-back =
       let f = fits-new s i _ _ (sym (number-is s i a a′ b b′ went m) ∙ z) in
       let t = there s i a a′ b b′ went m z .1 in
@@ -37,7 +37,7 @@ module _ (s : List ℕ) (i : Identity) (a a′ b b′ c c′ d d′ : List ℕ) 
 
 module _ (s : List ℕ) (bytes : Bytes s) (a a′ b b′ c c′ d d′ : List ℕ) (back : MovedBack) (went : Written)
     (m : MovedToOld s a a′ b b′ back) (z : back .number ≡ 0) (n : MovedToNew (take (back .length) a′) (back .identity) c c′ d d′ went) where
-  goes-there : BackAndThere s a a′ b b′ c c′ d d′ back went
+  goes-there : BackAndThere s c c′ d went
   unfolding newNumber
   goes-there =
       let f = fits-old s _ _ (sym (back-number s a a′ b b′ back m) ∙ z) in

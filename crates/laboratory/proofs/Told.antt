@@ -9,12 +9,12 @@ use lib.Dec.{ltb}
 use lib.IntN.{ℤ, pos}
 use lib.ListN.{length, drop}
 use lib.Signed.{ltZ}
-use borrow.Author.Tests.{lt-ltb, le-ltb, eq-eqb, ne-eqb}
+use borrow.Author.Tests.{lt-ltb, le-ltb, eq-eqb}
 use Rattle.sheet.specs.Bytes.{countAt}
 use Rattle.sheet.specs.Places.{identitySize}
 use Rattle.sheet.specs.Judge.{_then_, shortOf, wrongCount, outOfRange}
 use Rattle.sheet.specs.Read.{oldNumber, readOld}
-use Rattle.sheet.specs.Forms.{serialMost, dayMost, identityAt, identityBytes, identityNumber, givenNumber, sectionNumber, isNew, newNumber, readSheet, noIdentity, contentsOf}
+use Rattle.sheet.specs.Forms.{serialMost, dayMost, identityAt, identityBytes, identityNumber, givenNumber, sectionNumber, newNumber, readSheet, noIdentity, contentsOf}
 use Rattle.sheet.specs.BothForms.{InRange}
 use Rattle.sheet.specs.declared.Contents.{Contents}
 use Rattle.sheet.specs.declared.Identity.{Identity}
@@ -22,8 +22,8 @@ use Rattle.sheet.specs.declared.Sheet.{Sheet}
 use Rattle.sheet.proofs.Chain.{then-none, both}
 use Rattle.sheet.proofs.Numbers.{in-short, in-count}
 use Rattle.sheet.proofs.Judged.{faultless}
-use Rattle.sheet.proofs.EitherForm.{given-in, section-none, reads-old, reads-new, tells}
-use Rattle.sheet.proofs.NewForm.{identity-back, new-marked, new-read}
+use Rattle.sheet.proofs.EitherForm.{given-in, section-none, reads-old, tells}
+use Rattle.sheet.proofs.NewForm.{identity-back, new-marked, new-read, old-marked, same-read}
 use Rattle.laboratory.specs.Moves.{scratchLeast, buffersNumber}
 
 -- ---- a given identity: 0, or 3
@@ -73,9 +73,6 @@ new-empty = refl
 
 -- ---- what is read of an accepted old sheet, and of the same behind an identity
 
-pub old-marked : (s : List ℕ) → oldNumber s ≡ 0 → isNew s ≡ false
-old-marked s h = ne-eqb (countAt s 0) 2 (λ z. omega (arith, z, faultless s h .cell-count))
-
 read-none : (s : List ℕ) → oldNumber s ≡ 0 → readSheet s .number ≡ 0
 unfolding readOld
 read-none s h = ap (λ (r : Sheet). r .number) (reads-old s (old-marked s h)) ∙ h
@@ -94,20 +91,6 @@ new-told s i h g =
     let none : readSheet t .number ≡ 0 = ap (λ (r : Sheet). r .number) same ∙ read-none s h in
     let two : countAt t 0 ≡ 2 = first-count i s in
     sym (rw (two, identity-back i s g, same) at (tells t true refl none (new-marked i s g)))
-
--- ---- the old sheet in an accepted new one
-
-pub old-within : (s : List ℕ) → newNumber s ≡ 0 → oldNumber (drop identitySize s) ≡ 0
-unfolding newNumber
-old-within s h = then-none {a = sectionNumber s} h .1
-
--- it is read as the new one is
-pub same-read : (s : List ℕ) → newNumber s ≡ 0 → readSheet (drop identitySize s) ≡ readSheet s
-unfolding newNumber
-same-read s h =
-    let z = then-none {a = sectionNumber s} h in
-    let two = eq-eqb (countAt s 0) 2 (section-none s (z .0) .count-is) in
-    reads-old (drop identitySize s) (old-marked (drop identitySize s) (z .1)) ∙ sym (reads-new s two (z .0))
 
 pub new-identity : (s : List ℕ) → newNumber s ≡ 0 → contentsOf s .identity ≡ identityAt s
 unfolding newNumber

@@ -1,6 +1,6 @@
 -- The new form of an old sheet: it says its identity, and is judged and read as the old sheet behind it. Assumes nothing.
 use mathlib.Core.Path.{_≡_, refl, sym, _∙_, ap, ap₂}
-use mathlib.Core.Bool.{true}
+use mathlib.Core.Bool.{true, false}
 use mathlib.Core.List.{List, _∷_, _++_, append-assoc}
 use Prim.Native.Nat.{ℕ, _≤_}
 use native.Mathlib.Omega.{arith}
@@ -9,7 +9,7 @@ use lib.ListN.{length, drop, length-append}
 use lib.Signed.{_≤ℤ_}
 use mir.Syntax.{w64}
 use mir.Val.{SFits}
-use borrow.Author.Tests.{eq-eqb}
+use borrow.Author.Tests.{eq-eqb, ne-eqb}
 use Rattle.integers.proofs.Parts.{ints, nonneg-parts}
 use Rattle.integers.proofs.Difference.{⟨_⟩}
 use Rattle.integers.proofs.Machine.{fits! }
@@ -20,7 +20,9 @@ use Rattle.sheet.specs.Read.{oldNumber, readOld}
 use Rattle.sheet.specs.Forms.{identityAt, identityBytes, givenNumber, sectionNumber, isNew, newNumber, sheetNumber, readSheet}
 use Rattle.sheet.specs.declared.Identity.{Identity}
 use Rattle.sheet.proofs.EightBytes.{figure-length, glue, glue-count, cut, cut-count}
-use Rattle.sheet.proofs.EitherForm.{given-in, section-none, none-section, reads-new}
+use Rattle.sheet.proofs.Chain.{then-none}
+use Rattle.sheet.proofs.Judged.{faultless}
+use Rattle.sheet.proofs.EitherForm.{given-in, section-none, none-section, reads-old, reads-new}
 
 -- an identity in range is two figures of 64 bits
 range-fits : {n : ℕ} {v : ℤ} → n ≤ 4294967295 → pos 0 ≤ℤ v → v ≤ℤ pos n → SFits w64 v
@@ -87,3 +89,20 @@ new-is s b h =
     ap (λ (l : List ℕ). 2 ∷ l) (append-assoc (figureBytes (figureAt s 1)) (figureBytes (figureAt s 9)) (drop 17 s))
     ∙ ap (λ (n : ℕ). n ∷ figureBytes (figureAt s 1) ++ (figureBytes (figureAt s 9) ++ drop 17 s)) (sym (k .count-is))
     ∙ sym all
+
+-- ---- an accepted sheet of each form
+
+pub old-marked : (s : List ℕ) → oldNumber s ≡ 0 → isNew s ≡ false
+old-marked s h = ne-eqb (countAt s 0) 2 (λ z. omega (arith, z, faultless s h .cell-count))
+
+pub old-within : (s : List ℕ) → newNumber s ≡ 0 → oldNumber (drop identitySize s) ≡ 0
+unfolding newNumber
+old-within s h = then-none {a = sectionNumber s} h .1
+
+-- the old sheet in a new one is read as the new one is
+pub same-read : (s : List ℕ) → newNumber s ≡ 0 → readSheet (drop identitySize s) ≡ readSheet s
+unfolding newNumber
+same-read s h =
+    let z = then-none {a = sectionNumber s} h in
+    let two = eq-eqb (countAt s 0) 2 (section-none s (z .0) .count-is) in
+    reads-old (drop identitySize s) (old-marked (drop identitySize s) (z .1)) ∙ sym (reads-new s two (z .0))
