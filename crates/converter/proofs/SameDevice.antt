@@ -31,6 +31,6 @@ new-none rest station h = making-accepted (2 ∷ rest) station h .sheet-accepted
 pub same-devices : SameDevices
 unfolding readSheet sheetNumber
 same-devices = record {
-  marked = λ i r rest station. same-device _ _ station (new-read i (4 ∷ rest) (in-given i r) ∙ sym (reads-old (4 ∷ rest) refl));
-  unmarked = λ rest station h. same-device _ _ station (sym (same-read (2 ∷ rest) (new-none rest station h)));
+  behind-identity = λ i r rest station. same-device _ _ station (new-read i (4 ∷ rest) (in-given i r) ∙ sym (reads-old (4 ∷ rest) refl));
+  accepted-new = λ rest station h. same-device _ _ station (sym (same-read (2 ∷ rest) (new-none rest station h)));
 }

@@ -1,4 +1,4 @@
--- Change 6 over whole histories: "Both are read and give the same device." A sheet of the old form, and the same behind an identity, make
+-- Change 6 over whole histories: "Both are read and give the same device". A sheet of the old form, and the same behind an identity, make
 -- one device, in which nothing of the identity is kept; so after any calls it is the same, and so is all that the log says.
 use mathlib.Core.Path.{_≡_}
 use mathlib.Core.List.{List, _∷_, _++_}
@@ -22,6 +22,6 @@ module _ (new old : List ℕ) (station : ℕ) where
 
 pub record SameDevices : Type 0 where
   -- a sheet that begins with 4, and the same behind an identity
-  pub marked : (i : Identity) → InRange i → (rest : List ℕ) (station : ℕ) → SameDevice (identityBytes i ++ (4 ∷ rest)) (4 ∷ rest) station
+  pub behind-identity : (i : Identity) → InRange i → (rest : List ℕ) (station : ℕ) → SameDevice (identityBytes i ++ (4 ∷ rest)) (4 ∷ rest) station
   -- an accepted sheet that begins with 2, and what stands behind its serial and day
-  pub unmarked : (rest : List ℕ) (station : ℕ) → made (2 ∷ rest) station .number ≡ 0 → SameDevice (2 ∷ rest) (drop 16 rest) station
+  pub accepted-new : (rest : List ℕ) (station : ℕ) → made (2 ∷ rest) station .number ≡ 0 → SameDevice (2 ∷ rest) (drop 16 rest) station

@@ -9,7 +9,7 @@ use lib.ListN.{length, drop, length-append, length-drop}
 use borrow.Author.Tests.{ltb-false}
 use Rattle.sheet.specs.Places.{identitySize}
 use Rattle.sheet.specs.Read.{oldNumber, figuresOf, temperatureAt, linearityAt}
-use Rattle.sheet.specs.Forms.{identityBytes, givenNumber, sectionNumber, newNumber}
+use Rattle.sheet.specs.Forms.{identityBytes, givenNumber, ownIdentityNumber, newNumber}
 use Rattle.sheet.specs.declared.Identity.{Identity}
 use Rattle.sheet.proofs.Chain.{then-none}
 use Rattle.sheet.proofs.Sections.{counts-in}
@@ -63,13 +63,13 @@ pub record FitsOld (s : List ℕ) (out scratch : ℕ) : Type 0 where
 
 pub new-long : (s : List ℕ) → newNumber s ≡ 0 → identitySize ≤ length s
 unfolding newNumber
-new-long s h = section-none s (then-none {a = sectionNumber s} h .0) .long
+new-long s h = section-none s (then-none {a = ownIdentityNumber s} h .0) .long
 
 pub fits-old : (s : List ℕ) (out scratch : ℕ) → toOldNumber s out scratch ≡ 0 → FitsOld s out scratch
 unfolding toOldNumber newNumber
 fits-old s out scratch h =
     let a = then-none {a = newNumber s} h in
-    let b = then-none {a = sectionNumber s} (a .0) in
+    let b = then-none {a = ownIdentityNumber s} (a .0) in
     let l = long-buffers (length (toOld s)) out scratch (a .1) in
     let d = length-drop identitySize s in
     record { sheet-none = a .0; long = new-long s (a .0); in-out = omega (arith, l, d); in-scratch = omega (arith, l, d, old-length (drop identitySize s) (b .1)) }

@@ -12,20 +12,20 @@ use borrow.Author.Tests.{ne-eqb}
 use Rattle.sheet.specs.Places.{identitySize}
 use Rattle.sheet.specs.Judge.{_then_}
 use Rattle.sheet.specs.Read.{oldNumber}
-use Rattle.sheet.specs.Forms.{identityAt, newNumber, noIdentity, contentsOf}
+use Rattle.sheet.specs.Forms.{identityAt, newNumber, sheetNumber, noIdentity, contentsOf}
 use Rattle.sheet.specs.BothForms.{InRange}
 use Rattle.sheet.specs.declared.Identity.{Identity}
 use Rattle.sheet.specs.declared.Sheet.{Sheet}
 use Rattle.sheet.proofs.Chain.{then-stop}
-use Rattle.sheet.proofs.BothForms.{old-other, old-empty}
+use Rattle.sheet.proofs.BothForms.{old-other, old-empty, both-forms}
 use Rattle.sheet.proofs.EitherForm.{in-given}
 use Rattle.sheet.proofs.NewForm.{old-back, old-within, same-read}
 use Rattle.sheet_writer.specs.declared.Written.{Written}
-use Rattle.laboratory.specs.Moves.{toNew, toOld, front, after, buffersNumber, toNewNumber, toOldNumber, movedOf, movedBackOf, Buffers, MovedToNew, MovedToOld}
+use Rattle.laboratory.specs.Moves.{toNew, toOld, atFront, after, buffersNumber, toNewNumber, toOldNumber, movedOf, movedBackOf, Buffers, MovedToNew, MovedToOld}
 use Rattle.laboratory.specs.Moving.{Lent, ToNew, ToOld, Moving}
 use Rattle.laboratory.specs.declared.moves.MovedBack.{MovedBack}
 use Rattle.laboratory.proofs.Fits.{new-length, fits-new, FitsOld, fits-old}
-use Rattle.laboratory.proofs.Told.{given-out, short-buffers, roomy-buffers, new-other, new-empty, old-told, new-told, new-identity}
+use Rattle.laboratory.proofs.Told.{given-out, short-buffers, roomy-buffers, new-other, new-first, new-empty, old-told, new-told, new-identity}
 
 -- ---- the lent buffers
 
@@ -33,8 +33,8 @@ module _ {written out out′ scratch scratch′ : List ℕ} where
   lent : (n : ℕ) {l : ℕ} → l ≡ cond (eqb n 0) (length written) 0 → Buffers n written out out′ scratch scratch′ → Lent n l out out′ scratch scratch′
   unfolding after
   lent zero e b =
-      let past : (before : List ℕ) → drop (length written) (front written before) ≡ drop (length written) before = λ before. drop-at written (drop (length written) before) (length written) refl in
-      let put : (before : List ℕ) → take (length written) (front written before) ≡ written = λ before. take-at written (drop (length written) before) (length written) refl in
+      let past : (before : List ℕ) → drop (length written) (atFront written before) ≡ drop (length written) before = λ before. drop-at written (drop (length written) before) (length written) refl in
+      let put : (before : List ℕ) → take (length written) (atFront written before) ≡ written = λ before. take-at written (drop (length written) before) (length written) refl in
       record {
         past-kept = ap₂ drop e (b .out-is) ∙ past out ∙ ap (λ (k : ℕ). drop k out) (sym e);
         copied = ap₂ take e (b .scratch-is) ∙ put scratch ∙ sym (ap₂ take e (b .out-is) ∙ put out);
@@ -62,7 +62,7 @@ module _ {written out out′ scratch scratch′ : List ℕ} where
   unfolding after
   written-there {l = l} z e b =
       let k : l ≡ length written = e ∙ rw z refl in
-      let f : out′ ≡ front written out = b .out-is ∙ rw z refl in
+      let f : out′ ≡ atFront written out = b .out-is ∙ rw z refl in
       (k, ap₂ take k f ∙ take-at written (drop (length written) out) (length written) refl)
 
 -- ---- to the new form
@@ -100,7 +100,8 @@ module _ (s : List ℕ) (i : Identity) (out out′ scratch scratch′ : List ℕ
   moves-to-new : ToNew s i out out′ scratch scratch′ r
   moves-to-new = record {
     no-sheet = λ e. judged-by (ap oldNumber e ∙ old-empty);
-    other-form = λ rest e. judged-by (ap oldNumber e ∙ old-other 2 rest (λ z. omega (arith, z)));
+    other-form = λ count rest k e. judged-by (ap oldNumber e ∙ old-other count rest k);
+    judged-as = λ h rest e. let same : sheetNumber s ≡ oldNumber s = ap sheetNumber e ∙ both-forms .old rest ∙ ap oldNumber (sym e) in judged (λ z. h (same ∙ z)) ∙ sym same;
     judged = judged;
     given = given;
     short = λ h k l. by-buffers h k ∙ short-buffers _ _ _ (⊎-elim (λ a. inl (omega (arith, a, new-length i s))) inr l);
@@ -149,7 +150,8 @@ module _ (s out out′ scratch scratch′ : List ℕ) (r : MovedBack) (m : Moved
       let fits : r .number ≡ 0 → FitsOld s (length out) (length scratch) = λ z. fits-old s _ _ (sym back-number ∙ z) in
       record {
         no-sheet = λ e. back-judged-by (ap newNumber e ∙ new-empty);
-        other-form = λ rest e. back-judged-by (ap newNumber e ∙ new-other rest);
+        other-form = λ count rest k e. back-judged-by (ap newNumber e ∙ new-other count rest k);
+        judged-as = λ h rest e. let same : sheetNumber s ≡ newNumber s = ap sheetNumber e ∙ new-first rest ∙ ap newNumber (sym e) in back-judged (λ z. h (same ∙ z)) ∙ sym same;
         judged = back-judged;
         short = λ h l. back-buffers h ∙ short-buffers _ _ _ (⊎-elim (λ a. inl (omega (arith, a, d))) inr l);
         accepted = λ h a b. back-buffers h ∙ roomy-buffers (omega (arith, a, d)) b;

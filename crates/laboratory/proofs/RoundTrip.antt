@@ -7,11 +7,11 @@ use lib.ListN.{length, take, drop, length-drop}
 use Rattle.sheet.specs.Bytes.{Bytes}
 use Rattle.sheet.specs.Places.{identitySize}
 use Rattle.sheet.specs.Read.{oldNumber}
-use Rattle.sheet.specs.Forms.{identityAt, sectionNumber, newNumber}
+use Rattle.sheet.specs.Forms.{identityAt, ownIdentityNumber, newNumber}
 use Rattle.sheet.specs.declared.Identity.{Identity}
 use Rattle.sheet.proofs.Chain.{then-none}
 use Rattle.sheet.proofs.EitherForm.{given-in, in-given, section-none}
-use Rattle.sheet.proofs.NewForm.{old-back, identity-back, new-judged, new-number, new-is, old-within}
+use Rattle.sheet.proofs.NewForm.{old-back, identity-back, new-judged, behind-judged, new-is, old-within}
 use Rattle.sheet_writer.specs.declared.Written.{Written}
 use Rattle.laboratory.specs.Moves.{toNew, MovedToNew, MovedToOld}
 use Rattle.laboratory.specs.RoundTrip.{ThereAndBack, BackAndThere, RoundTrip}
@@ -42,7 +42,7 @@ module _ (s : List ℕ) (bytes : Bytes s) (a a′ b b′ c c′ d d′ : List �
   goes-there =
       let f = fits-old s _ _ (sym (back-number s a a′ b b′ back m) ∙ z) in
       let p = moving .to-old s a a′ b b′ back m in
-      let section = then-none {a = sectionNumber s} (f .sheet-none) .0 in
+      let section = then-none {a = ownIdentityNumber s} (f .sheet-none) .0 in
       let t = p .old-bytes z in
       let i : back .identity ≡ identityAt s = p .identity-is z ∙ new-identity s (f .sheet-none) in
       let q = moving .to-new (take (back .length) a′) (back .identity) c c′ d d′ went n in
@@ -58,5 +58,5 @@ pub round-trip : RoundTrip
 round-trip = record {
   there-and-back = goes-back;
   back-and-there = goes-there;
-  moved-accepted = λ s i r. new-number i s (in-given i r);
+  moved-accepted = λ s i r. behind-judged i s (in-given i r);
 }

@@ -12,15 +12,15 @@ use lib.Signed.{ltZ}
 use borrow.Author.Tests.{lt-ltb, le-ltb, eq-eqb}
 use Rattle.sheet.specs.Bytes.{countAt}
 use Rattle.sheet.specs.Places.{identitySize}
-use Rattle.sheet.specs.Judge.{_then_, shortOf, wrongCount, outOfRange}
+use Rattle.sheet.specs.Judge.{_then_, shortOf, outOfRange}
 use Rattle.sheet.specs.Read.{oldNumber, readOld}
-use Rattle.sheet.specs.Forms.{serialMost, dayMost, identityAt, identityBytes, identityNumber, givenNumber, sectionNumber, newNumber, readSheet, noIdentity, contentsOf}
+use Rattle.sheet.specs.Forms.{serialMost, dayMost, identityAt, identityBytes, identityNumber, givenNumber, ownIdentityNumber, newNumber, sheetNumber, readSheet, noIdentity, contentsOf}
 use Rattle.sheet.specs.BothForms.{InRange}
 use Rattle.sheet.specs.declared.Contents.{Contents}
 use Rattle.sheet.specs.declared.Identity.{Identity}
 use Rattle.sheet.specs.declared.Sheet.{Sheet}
 use Rattle.sheet.proofs.Chain.{then-none, both}
-use Rattle.sheet.proofs.Numbers.{in-short, in-count}
+use Rattle.sheet.proofs.Numbers.{in-short, in-count, count-wrong}
 use Rattle.sheet.proofs.Judged.{faultless}
 use Rattle.sheet.proofs.EitherForm.{given-in, section-none, reads-old, tells}
 use Rattle.sheet.proofs.NewForm.{identity-back, new-marked, new-read, old-marked, same-read}
@@ -63,12 +63,16 @@ roomy-buffers h k = rw (le-ltb _ _ h, le-ltb _ _ k)
 
 -- ---- the other form at a move back
 
-pub new-other : (rest : List ℕ) → newNumber (4 ∷ rest) ≡ 2
-unfolding newNumber sectionNumber identityNumber wrongCount
-new-other rest = rw (in-short {room = suc (length rest)} {end = 1} (omega arith))
+pub new-other : (count : ℕ) (rest : List ℕ) → (count ≡ 2 → ⊥) → newNumber (count ∷ rest) ≡ 2
+unfolding newNumber ownIdentityNumber identityNumber
+new-other count rest k = rw (in-short {room = suc (length rest)} {end = 1} (omega arith), count-wrong {n = 2} k)
+
+pub new-first : (rest : List ℕ) → sheetNumber (2 ∷ rest) ≡ newNumber (2 ∷ rest)
+unfolding sheetNumber
+new-first rest = refl
 
 pub new-empty : newNumber [] ≡ 1
-unfolding newNumber sectionNumber identityNumber shortOf
+unfolding newNumber ownIdentityNumber identityNumber shortOf
 new-empty = refl
 
 -- ---- what is read of an accepted old sheet, and of the same behind an identity
@@ -95,7 +99,7 @@ new-told s i h g =
 pub new-identity : (s : List ℕ) → newNumber s ≡ 0 → contentsOf s .identity ≡ identityAt s
 unfolding newNumber
 new-identity s h =
-    let z = then-none {a = sectionNumber s} h in
+    let z = then-none {a = ownIdentityNumber s} h in
     let two = eq-eqb (countAt s 0) 2 (section-none s (z .0) .count-is) in
     let none : readSheet s .number ≡ 0 = ap (λ (r : Sheet). r .number) (sym (same-read s h)) ∙ read-none (drop identitySize s) (z .1) in
     ap (λ (c : Contents). c .identity) (sym (tells s true refl none two))

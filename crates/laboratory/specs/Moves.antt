@@ -42,12 +42,12 @@ toOldNumber s out scratch = newNumber s then buffersNumber (length (toOld s)) ou
 -- ---- the buffers afterwards
 
 -- bytes at the front of a buffer, and past them what was there
-abbrev pub front : List ℕ → List ℕ → List ℕ
-front bytes before = bytes ++ drop (length bytes) before
+abbrev pub atFront : List ℕ → List ℕ → List ℕ
+atFront bytes before = bytes ++ drop (length bytes) before
 
 -- a refused move leaves a buffer as it was
 unfoldable pub after : ℕ → List ℕ → List ℕ → List ℕ
-after number bytes before = cond (eqb number 0) (front bytes before) before
+after number bytes before = cond (eqb number 0) (atFront bytes before) before
 
 -- "After an accepted move its first bytes hold a copy of the bytes written, and the rest is untouched."
 abbrev pub copyOf : List ℕ → List ℕ

@@ -7,7 +7,7 @@ use Prim.Native.Nat.{ℕ, _+_, _<_, _≤_}
 use lib.IntN.{pos}
 use lib.ListN.{length, take, drop}
 use Rattle.sheet.specs.Read.{oldNumber}
-use Rattle.sheet.specs.Forms.{newNumber, readSheet, contentsOf}
+use Rattle.sheet.specs.Forms.{newNumber, sheetNumber, readSheet, contentsOf}
 use Rattle.sheet.specs.BothForms.{InRange}
 use Rattle.sheet.specs.declared.Identity.{Identity}
 use Rattle.sheet_writer.specs.declared.Written.{Written}
@@ -31,7 +31,8 @@ module _ (s : List ℕ) (i : Identity) (out out′ scratch scratch′ : List ℕ
   pub record ToNew : Type 0 where
     -- "Each judges its sheet first, a sheet of the other form being 2 at its first count"
     pub no-sheet : s ≡ [] → r .number ≡ 1
-    pub other-form : (rest : List ℕ) → s ≡ 2 ∷ rest → r .number ≡ 2
+    pub other-form : (count : ℕ) (rest : List ℕ) → (count ≡ 4 → ⊥) → s ≡ count ∷ rest → r .number ≡ 2
+    pub judged-as : (sheetNumber s ≡ 0 → ⊥) → (rest : List ℕ) → s ≡ 4 ∷ rest → r .number ≡ sheetNumber s
     pub judged : (oldNumber s ≡ 0 → ⊥) → r .number ≡ oldNumber s
     -- "then a given identity, out of range being 3"
     pub given : oldNumber s ≡ 0 → (InRange i → ⊥) → r .number ≡ 3
@@ -48,7 +49,8 @@ module _ (s : List ℕ) (i : Identity) (out out′ scratch scratch′ : List ℕ
 module _ (s out out′ scratch scratch′ : List ℕ) (r : MovedBack) where
   pub record ToOld : Type 0 where
     pub no-sheet : s ≡ [] → r .number ≡ 1
-    pub other-form : (rest : List ℕ) → s ≡ 4 ∷ rest → r .number ≡ 2
+    pub other-form : (count : ℕ) (rest : List ℕ) → (count ≡ 2 → ⊥) → s ≡ count ∷ rest → r .number ≡ 2
+    pub judged-as : (sheetNumber s ≡ 0 → ⊥) → (rest : List ℕ) → s ≡ 2 ∷ rest → r .number ≡ sheetNumber s
     pub judged : (newNumber s ≡ 0 → ⊥) → r .number ≡ newNumber s
     pub short : newNumber s ≡ 0 → (17 + length out < length s) ⊎ (length scratch < 342) → r .number ≡ 19
     pub accepted : newNumber s ≡ 0 → length s ≤ 17 + length out → 342 ≤ length scratch → r .number ≡ 0

@@ -5,7 +5,7 @@ ghost use lib.ListN.{length, take};
 ghost use Rattle.integers.specs.Bytes.{Put};
 ghost use Rattle.sheet.specs.Places.{identitySize};
 ghost use Rattle.sheet.specs.Forms.{identityBytes};
-ghost use Rattle.laboratory.specs.Moves.{toNew, toOld, front, copyOf, buffersNumber, toNewNumber, toOldNumber, MovedToNew, MovedToOld};
+ghost use Rattle.laboratory.specs.Moves.{toNew, toOld, atFront, copyOf, buffersNumber, toNewNumber, toOldNumber, MovedToNew, MovedToOld};
 use sheet::Identity;
 use sheet::places;
 use sheet_writer::Written;
@@ -72,7 +72,7 @@ fn put_identity(to: &mut [u8], identity: Identity)
 // The new form of an old sheet, at the front of a buffer.
 fn put_new(to: &mut [u8], identity: Identity, sheet: &[u8])
     requires { ⌜ identitySize + length (now sheet) ≤ length (now to) ⌝ }
-    ensures { λ _. ⌜ now (to .exit) ≡ front (toNew identity (now (sheet .entry))) (now (to .entry)) ⌝ }
+    ensures { λ _. ⌜ now (to .exit) ≡ atFront (toNew identity (now (sheet .entry))) (now (to .entry)) ⌝ }
 {
     put_identity(to, identity);
     let at = places::IDENTITY_SIZE;
@@ -82,7 +82,7 @@ fn put_new(to: &mut [u8], identity: Identity, sheet: &[u8])
 // The old sheet in a new one, at the front of a buffer.
 fn put_old(to: &mut [u8], sheet: &[u8])
     requires { ⌜ (identitySize ≤ length (now sheet)) × (length (now sheet) ≤ identitySize + length (now to)) ⌝ }
-    ensures { λ _. ⌜ now (to .exit) ≡ front (toOld (now (sheet .entry))) (now (to .entry)) ⌝ }
+    ensures { λ _. ⌜ now (to .exit) ≡ atFront (toOld (now (sheet .entry))) (now (to .entry)) ⌝ }
 {
     let at = places::IDENTITY_SIZE;
     bytes::copy(&sheet[at..], to);
@@ -91,7 +91,7 @@ fn put_old(to: &mut [u8], sheet: &[u8])
 // A copy of the bytes written, at the front of the scratch.
 fn keep_copy(out: &[u8], written: usize, scratch: &mut [u8])
     requires { ⌜ (written ≤ length (now out)) × (written ≤ length (now scratch)) ⌝ }
-    ensures { λ _. ⌜ now (scratch .exit) ≡ front (copyOf (take written (now (out .entry)))) (now (scratch .entry)) ⌝ }
+    ensures { λ _. ⌜ now (scratch .exit) ≡ atFront (copyOf (take written (now (out .entry)))) (now (scratch .entry)) ⌝ }
 {
     bytes::copy(&out[..written], scratch);
 }

@@ -4,21 +4,20 @@ use mathlib.Core.Bool.{Bool, true, false, cond}
 use mathlib.Core.List.{List, [], _∷_}
 use Prim.Native.Nat.{ℕ, suc, _<_, _≤_}
 use native.Mathlib.Omega.{arith}
-use lib.Dec.{ltb}
 use lib.IntN.{ℤ, pos}
 use lib.ListN.{length, drop}
 use lib.Signed.{ltZ, _≤ℤ_}
-use borrow.Author.Tests.{lt-ltb, ltb-false, ne-eqb}
+use borrow.Author.Tests.{lt-ltb, ne-eqb}
 use Rattle.integers.proofs.Order.{lt-no}
 use Rattle.sheet.specs.Bytes.{figureAt}
 use Rattle.sheet.specs.Places.{identitySize}
-use Rattle.sheet.specs.Judge.{_then_, shortOf, wrongCount, outOfRange, cellNumber, sectionsNumber}
-use Rattle.sheet.specs.Read.{oldNumber}
-use Rattle.sheet.specs.Forms.{serialMost, dayMost, identityAt, identityNumber, sectionNumber, newNumber, sheetNumber, readSheet, contentsOf}
+use Rattle.sheet.specs.Judge.{_then_, shortOf, outOfRange, cellNumber, sectionsNumber}
+use Rattle.sheet.specs.Read.{cellAt, temperatureAt, linearityAt, systemAt, filterAt, figuresOf, oldNumber, noFigures}
+use Rattle.sheet.specs.Forms.{serialMost, dayMost, identityAt, identityNumber, ownIdentityNumber, newNumber, sheetNumber, readSheet, contentsOf}
 use Rattle.sheet.specs.BothForms.{Serial, Day, serialOf, dayOf, BothForms}
 use Rattle.sheet.proofs.EightBytes.{there-is}
 use Rattle.sheet.proofs.Chain.{then-none, both}
-use Rattle.sheet.proofs.Numbers.{in-short, in-count, in-beyond}
+use Rattle.sheet.proofs.Numbers.{in-short, in-count, count-wrong, in-beyond}
 use Rattle.sheet.proofs.EitherForm.{in-given, none-section, reads-old, reads-new, section-none}
 use Rattle.sheet.proofs.Theorems.{refused-zeros}
 
@@ -51,7 +50,7 @@ module _ (rest : List ℕ) where
 
   -- after the count, which is there and right: serial, day, and the old sheet
   number-is : sheetNumber s ≡ ((shortOf (length s) 9 then outOfRange (pos 0) (pos serialMost) (figureAt s 1)) then (shortOf (length s) 17 then outOfRange (pos 0) (pos dayMost) (figureAt s 9))) then oldNumber (drop identitySize s)
-  unfolding sheetNumber newNumber sectionNumber identityNumber identityAt
+  unfolding sheetNumber newNumber ownIdentityNumber identityNumber identityAt
   number-is = rw (in-short {room = length s} {end = 1} (omega arith), in-count {least = 2} {most = 2} {n = 2} (omega arith) (omega arith))
 
   no-serial : length rest < 8 → sheetNumber s ≡ 1
@@ -74,29 +73,20 @@ module _ (rest : List ℕ) where
   unfolding identityAt
   identity-at l = rw (serial-at (omega arith), day-at l)
 
-  section : Serial (serialOf rest) → Day (dayOf rest) → 16 ≤ length rest → sectionNumber s ≡ 0
+  section : Serial (serialOf rest) → Day (dayOf rest) → 16 ≤ length rest → ownIdentityNumber s ≡ 0
   section k d l =
       let i = identity-at l in
       none-section s (record { count-is = refl; given = rw i (in-given _ (record { serial = k; day = d })); long = omega arith })
 
   long-enough : sheetNumber s ≡ 0 → 16 ≤ length rest
   unfolding sheetNumber newNumber
-  long-enough e = let k = section-none s (then-none {a = sectionNumber s} e .0) .long in omega (arith, k)
+  long-enough e = let k = section-none s (then-none {a = ownIdentityNumber s} e .0) .long in omega (arith, k)
 
 -- ---- another first count
 
-wrong-by : {count : ℕ} (t u : Bool) → ltb count 4 ≡ t → ltb 4 count ≡ u → (count ≡ 4 → ⊥) → cond {A = ℕ} t 2 (cond u 2 0) ≡ 2
-wrong-by true u e f k = refl
-wrong-by false true e f k = refl
-wrong-by {count} false false e f k = absurd (k (omega (arith, ltb-false count 4 e, ltb-false 4 count f)))
-
-not-four : {count : ℕ} → (count ≡ 4 → ⊥) → wrongCount 4 4 count ≡ 2
-unfolding wrongCount
-not-four {count} k = wrong-by (ltb count 4) (ltb 4 count) refl refl k
-
 pub old-other : (count : ℕ) (rest : List ℕ) → (count ≡ 4 → ⊥) → oldNumber (count ∷ rest) ≡ 2
 unfolding oldNumber sectionsNumber cellNumber
-old-other count rest k = rw (in-short {room = suc (length rest)} {end = 1} (omega arith), not-four k)
+old-other count rest k = rw (in-short {room = suc (length rest)} {end = 1} (omega arith), count-wrong {n = 4} k)
 
 pub old-empty : oldNumber [] ≡ 1
 unfolding oldNumber sectionsNumber cellNumber shortOf
@@ -113,6 +103,10 @@ old-first rest = refl
 empty : sheetNumber [] ≡ 1
 unfolding sheetNumber
 empty = old-empty
+
+zeros : noFigures ≡ figuresOf []
+unfolding noFigures figuresOf cellAt temperatureAt linearityAt systemAt filterAt figureAt
+zeros = refl
 
 pub both-forms : BothForms
 unfolding contentsOf readSheet
@@ -132,6 +126,7 @@ both-forms = record {
   told-old = λ rest e. (rw e, rw e);
   told-new = λ rest e. (rw e, rw e (identity-at rest (long-enough rest e)));
   refused-figures = λ s h. refused-zeros s h;
+  no-figures = zeros;
   refused-form = λ s h. rw (ne-eqb (sheetNumber s) 0 h);
   refused-identity = λ s h. rw (ne-eqb (sheetNumber s) 0 h);
 }

@@ -11,7 +11,7 @@ use Rattle.figures.proofs.Default.{default-representable, default-acceptable}
 use Rattle.sheet.specs.Bytes.{figureAt, figureBytes}
 use Rattle.sheet.specs.Judge.{shortOf, wrongCount, outOfRange, notBelow, tooSteep, trailing, cellNumber, temperaturePointNumber, temperatureNumber, linearityPointNumber, linearityNumber, systemNumber, filterNumber, sectionsNumber}
 use Rattle.sheet.specs.Read.{cellAt, temperaturePointAt, linearityPointAt, temperatureAt, linearityAt, systemAt, filterAt, figuresOf, oldNumber}
-use Rattle.sheet.specs.Forms.{identityAt, identityBytes, identityNumber, sectionNumber, newNumber, sheetNumber, readSheet}
+use Rattle.sheet.specs.Forms.{identityAt, identityBytes, identityNumber, ownIdentityNumber, newNumber, sheetNumber, readSheet}
 use Rattle.sheet.specs.Write.{cellBytes, temperaturePointBytes, linearityPointBytes, temperatureBytes, linearityBytes, systemBytes, filterBytes, sheetBytes}
 use Rattle.sheet.proofs.Theorems.{written-read}
 
@@ -71,7 +71,7 @@ pub record NewEdges : Type 0 where
   pub trailing-byte : sheetNumber (behind (pos 0) (pos 0) ++ 0 ∷ []) ≡ 7
 
 pub new-edges : NewEdges
-unfolding sheetNumber newNumber sectionNumber identityNumber identityAt identityBytes oldNumber sectionsNumber cellNumber temperatureNumber temperaturePointNumber linearityNumber linearityPointNumber systemNumber filterNumber shortOf wrongCount outOfRange notBelow tooSteep trailing
+unfolding sheetNumber newNumber ownIdentityNumber identityNumber identityAt identityBytes oldNumber sectionsNumber cellNumber temperatureNumber temperaturePointNumber linearityNumber linearityPointNumber systemNumber filterNumber shortOf wrongCount outOfRange notBelow tooSteep trailing
     figuresOf cellAt temperatureAt temperaturePointAt linearityAt linearityPointAt systemAt filterAt figureAt signedOf
     sheetBytes cellBytes temperatureBytes linearityBytes systemBytes filterBytes temperaturePointBytes linearityPointBytes figureBytes defaultSheet
 new-edges = record {

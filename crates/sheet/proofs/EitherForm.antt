@@ -12,7 +12,7 @@ use Rattle.sheet.specs.Bytes.{countAt}
 use Rattle.sheet.specs.Places.{identitySize}
 use Rattle.sheet.specs.Judge.{_then_, shortOf, outOfRange, wrongCount, countNumber, rangeNumber}
 use Rattle.sheet.specs.Read.{oldNumber, noFigures, readOld}
-use Rattle.sheet.specs.Forms.{serialMost, dayMost, identityAt, identityNumber, givenNumber, sectionNumber, isNew, newNumber, sheetNumber, oldOf, readSheet, noIdentity, contentsOf}
+use Rattle.sheet.specs.Forms.{serialMost, dayMost, identityAt, identityNumber, givenNumber, ownIdentityNumber, isNew, newNumber, sheetNumber, oldOf, readSheet, noIdentity, contentsOf}
 use Rattle.sheet.specs.BothForms.{InRange}
 use Rattle.sheet.specs.declared.Identity.{Identity}
 use Rattle.sheet.specs.declared.Sheet.{Sheet}
@@ -46,8 +46,8 @@ pub record Section (s : List ℕ) : Type 0 where
   pub given : givenNumber (identityAt s) ≡ 0
   pub long : identitySize ≤ length s
 
-pub section-none : (s : List ℕ) → sectionNumber s ≡ 0 → Section s
-unfolding sectionNumber identityNumber
+pub section-none : (s : List ℕ) → ownIdentityNumber s ≡ 0 → Section s
+unfolding ownIdentityNumber identityNumber
 section-none s h =
     let short = shortOf (length s) in
     let i = identityAt s in
@@ -58,8 +58,8 @@ section-none s h =
     let g = then-none {a = short 17} (e .1) in
     record { count-is = omega (arith, k); given = both (in-count (omega arith) (omega arith)) (both (f .1) (g .1)); long = short-in (length s) 17 (g .0) }
 
-pub none-section : (s : List ℕ) → Section s → sectionNumber s ≡ 0
-unfolding sectionNumber
+pub none-section : (s : List ℕ) → Section s → ownIdentityNumber s ≡ 0
+unfolding ownIdentityNumber
 none-section s k = rw (k .count-is) (whole-identity (shortOf (length s)) (identityAt s) (in-short (omega (arith, k .long))) (in-short (omega (arith, k .long))) (in-short (k .long)) ∙ k .given)
 
 -- ---- what stands from a place on, as a part of the slice
@@ -73,19 +73,19 @@ pub reads-old : (s : List ℕ) → isNew s ≡ false → readSheet s ≡ readOld
 unfolding readSheet sheetNumber oldOf readOld
 reads-old s e = rw e
 
-pub reads-new : (s : List ℕ) → isNew s ≡ true → sectionNumber s ≡ 0 → readSheet s ≡ readOld (drop identitySize s)
+pub reads-new : (s : List ℕ) → isNew s ≡ true → ownIdentityNumber s ≡ 0 → readSheet s ≡ readOld (drop identitySize s)
 unfolding readSheet sheetNumber newNumber oldOf readOld
 reads-new s e z = rw (e, z)
 
-pub reads-none : (s : List ℕ) → isNew s ≡ true → (sectionNumber s ≡ 0 → ⊥) → readSheet s ≡ record { number = sectionNumber s; figures = noFigures }
+pub reads-none : (s : List ℕ) → isNew s ≡ true → (ownIdentityNumber s ≡ 0 → ⊥) → readSheet s ≡ record { number = ownIdentityNumber s; figures = noFigures }
 unfolding readSheet sheetNumber newNumber
-reads-none s e h = rw (e, then-stop (sectionNumber s) (oldNumber (drop identitySize s)) h, ne-eqb (sectionNumber s) 0 h)
+reads-none s e h = rw (e, then-stop (ownIdentityNumber s) (oldNumber (drop identitySize s)) h, ne-eqb (ownIdentityNumber s) 0 h)
 
 -- ---- by what stands in front of the old sheet, and where that starts
 
 module _ (s : List ℕ) where
   abbrev pub front-of : Bool → ℕ
-  front-of new = cond new (sectionNumber s) 0
+  front-of new = cond new (ownIdentityNumber s) 0
 
   faulty : (new : Bool) → isNew s ≡ new → (front-of new ≡ 0 → ⊥) → record { number = front-of new; figures = noFigures } ≡ readSheet s
   faulty true e h = sym (reads-none s e h)

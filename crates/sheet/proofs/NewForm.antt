@@ -17,7 +17,7 @@ use Rattle.sheet.specs.Bytes.{Bytes, countAt, figureAt, figureBytes}
 use Rattle.sheet.specs.Places.{identitySize}
 use Rattle.sheet.specs.Judge.{_then_}
 use Rattle.sheet.specs.Read.{oldNumber, readOld}
-use Rattle.sheet.specs.Forms.{identityAt, identityBytes, givenNumber, sectionNumber, isNew, newNumber, sheetNumber, readSheet}
+use Rattle.sheet.specs.Forms.{identityAt, identityBytes, givenNumber, ownIdentityNumber, isNew, newNumber, sheetNumber, readSheet}
 use Rattle.sheet.specs.declared.Identity.{Identity}
 use Rattle.sheet.proofs.EightBytes.{figure-length, glue, glue-count, cut, cut-count}
 use Rattle.sheet.proofs.Chain.{then-none}
@@ -62,7 +62,7 @@ module _ (i : Identity) (s : List ℕ) (h : givenNumber i ≡ 0) where
   pub new-marked : isNew t ≡ true
   new-marked = eq-eqb (countAt t 0) 2 (says .count-is)
 
-  pub new-section : sectionNumber t ≡ 0
+  pub new-section : ownIdentityNumber t ≡ 0
   new-section = let k = says in none-section t (record { count-is = k .count-is; given = ap givenNumber (k .identity-is) ∙ h; long = k .long })
 
   -- judged as the old sheet is
@@ -70,16 +70,16 @@ module _ (i : Identity) (s : List ℕ) (h : givenNumber i ≡ 0) where
   unfolding newNumber
   new-judged = ap₂ _then_ new-section (ap oldNumber old-back)
 
-  pub new-number : sheetNumber t ≡ oldNumber s
+  pub behind-judged : sheetNumber t ≡ oldNumber s
   unfolding sheetNumber
-  new-number = rw new-marked new-judged
+  behind-judged = rw new-marked new-judged
 
   -- "Both are read and give the same device"
   pub new-read : readSheet t ≡ readOld s
   new-read = reads-new t new-marked new-section ∙ ap readOld old-back
 
 -- a new sheet is the new form of the old one in it, with its own identity
-pub new-is : (s : List ℕ) → Bytes s → sectionNumber s ≡ 0 → identityBytes (identityAt s) ++ drop identitySize s ≡ s
+pub new-is : (s : List ℕ) → Bytes s → ownIdentityNumber s ≡ 0 → identityBytes (identityAt s) ++ drop identitySize s ≡ s
 unfolding identityAt identityBytes
 new-is s b h =
     let k = section-none s h in
@@ -97,12 +97,12 @@ old-marked s h = ne-eqb (countAt s 0) 2 (λ z. omega (arith, z, faultless s h .c
 
 pub old-within : (s : List ℕ) → newNumber s ≡ 0 → oldNumber (drop identitySize s) ≡ 0
 unfolding newNumber
-old-within s h = then-none {a = sectionNumber s} h .1
+old-within s h = then-none {a = ownIdentityNumber s} h .1
 
 -- the old sheet in a new one is read as the new one is
 pub same-read : (s : List ℕ) → newNumber s ≡ 0 → readSheet (drop identitySize s) ≡ readSheet s
 unfolding newNumber
 same-read s h =
-    let z = then-none {a = sectionNumber s} h in
+    let z = then-none {a = ownIdentityNumber s} h in
     let two = eq-eqb (countAt s 0) 2 (section-none s (z .0) .count-is) in
     reads-old (drop identitySize s) (old-marked (drop identitySize s) (z .1)) ∙ sym (reads-new s two (z .0))

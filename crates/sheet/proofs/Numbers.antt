@@ -43,6 +43,16 @@ pub in-count : {least most n : ℕ} → least ≤ n → n ≤ most → wrongCoun
 unfolding wrongCount
 in-count h k = simp (le-ltb _ _ h, le-ltb _ _ k)
 
+wrong-by : {n m : ℕ} (t u : Bool) → ltb m n ≡ t → ltb n m ≡ u → (m ≡ n → ⊥) → cond {A = ℕ} t 2 (cond u 2 0) ≡ 2
+wrong-by true u e f h = refl
+wrong-by false true e f h = refl
+wrong-by {n} {m} false false e f h = absurd (h (omega (arith, ltb-false m n e, ltb-false n m f)))
+
+-- another count than the one that is due
+pub count-wrong : {n m : ℕ} → (m ≡ n → ⊥) → wrongCount n n m ≡ 2
+unfolding wrongCount
+count-wrong {n} {m} h = wrong-by (ltb m n) (ltb n m) refl refl h
+
 pub whole-in : (room end : ℕ) → trailing room end ≡ 0 → room ≤ end
 unfolding trailing
 whole-in room end h = ltb-false end room (test-no (ltb end room) 6 0 h .0)

@@ -24,7 +24,7 @@ use Rattle.sheet.specs.Places.{temperatureStart, linearityStart, systemS
 use Rattle.sheet.specs.Judge.{_then_, shortOf, never, wrongCount, outOfRange, notBelow, tooSteep, trailing, pointsNumber, against}
 use Rattle.sheet.specs.Judge.{countNumber, rangeNumber, figureNumber, cellNumber, temperaturePointNumber, temperatureNumber, linearityPointNumber, linearityNumber, systemNumber, filterNumber, sectionsNumber, figuresNumber}
 use Rattle.sheet.specs.Read.{figuresOf, oldNumber, ctnOf, clnOf}
-use Rattle.sheet.specs.Forms.{serialMost, dayMost, identityAt, identityNumber, sectionNumber, isNew, newNumber, sheetNumber}
+use Rattle.sheet.specs.Forms.{serialMost, dayMost, identityAt, identityNumber, ownIdentityNumber, isNew, newNumber, sheetNumber}
 use Rattle.sheet.specs.declared.Identity.{Identity}
 use Rattle.sheet.specs.Bytes.{countAt}
 
@@ -113,7 +113,7 @@ module _ (P : ℕ → Type 0) where
       sections-keep a b d c =
           keep (cell-keeps 0 a (c .cell)) (keep (temperature-keeps temperatureStart (c .temperature)) (keep (linearity-keeps (linearityStart (c .temperature .ctn)) (c .linearity)) (keep (system-keeps (systemStart (c .temperature .ctn) (c .linearity .cln)) b (c .system)) (filter-keeps (filterStart (c .temperature .ctn) (c .linearity .cln)) d (c .filter)))))
 
--- a sheet gets 0 to 7
+-- an old sheet gets 0 to 7
 old-numbers : (s : List ℕ) → oldNumber s ≤ 7
 unfolding oldNumber shortOf trailing
 old-numbers s =
@@ -122,8 +122,9 @@ old-numbers s =
     (countAt s 0) (countAt s (systemStart (ctnOf s) (clnOf s))) (countAt s (filterStart (ctnOf s) (clnOf s))) (figuresOf s))
     (picked (λ k. k ≤ 7) {a = 7} {b = 0} (ltb (sheetEnd (ctnOf s) (clnOf s)) (length s)) (omega arith) (omega arith))
 
+-- and so does one of either form
 pub sheet-numbers : (s : List ℕ) → sheetNumber s ≤ 7
-unfolding sheetNumber newNumber sectionNumber shortOf
+unfolding sheetNumber newNumber ownIdentityNumber shortOf
 sheet-numbers s =
     picked (λ k. k ≤ 7) (isNew s)
     (keep (λ k. k ≤ 7)

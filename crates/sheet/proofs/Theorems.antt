@@ -19,7 +19,7 @@ use Rattle.sheet.specs.Places.{identitySize}
 use Rattle.sheet.specs.Judge.{_then_, figuresNumber}
 use Rattle.sheet.specs.Read.{readOld, noFigures}
 use Rattle.sheet.specs.Write.{cellBytes, sheetBytes}
-use Rattle.sheet.specs.Forms.{identityAt, identityBytes, sectionNumber, isNew, newNumber, sheetNumber, oldOf, readSheet}
+use Rattle.sheet.specs.Forms.{identityAt, identityBytes, ownIdentityNumber, isNew, newNumber, sheetNumber, oldOf, readSheet}
 use Rattle.sheet.specs.BothForms.{InRange}
 use Rattle.sheet.proofs.Chain.{then-none}
 use Rattle.sheet.proofs.OldForm as old
@@ -29,25 +29,28 @@ use Rattle.sheet.proofs.NewForm.{new-is, new-read}
 
 -- ---- "The writer keeps to the old sheet"
 
-pub written-old : (c : Calibration) → isNew (sheetBytes c) ≡ false
+pub written-old : (c : Calibration) → countAt (sheetBytes c) 0 ≡ 4
 unfolding sheetBytes cellBytes
 written-old c = refl
+
+not-new : (c : Calibration) → isNew (sheetBytes c) ≡ false
+not-new c = rw (written-old c)
 
 -- figures judged by themselves are judged as their bytes are
 pub written-judged : (c : Calibration) → Representable c → Fitting c → sheetNumber (sheetBytes c) ≡ figuresNumber c
 unfolding sheetNumber
-written-judged c r f = rw (written-old c) (old.written-judged c r f)
+written-judged c r f = rw (not-new c) (old.written-judged c r f)
 
 -- figures written and read come back, unused points 0
 pub written-read : (c : Calibration) → Representable c → Acceptable c → readSheet (sheetBytes c) ≡ record { number = 0; figures = unusedZero c }
-written-read c r h = reads-old (sheetBytes c) (written-old c) ∙ old.written-read c r h
+written-read c r h = reads-old (sheetBytes c) (not-new c) ∙ old.written-read c r h
 
 -- ---- a sheet is read as the old sheet in it
 
 module _ (s : List ℕ) where
   read-by : (new : Bool) → isNew s ≡ new → readSheet s .number ≡ 0 → readSheet s ≡ readOld (oldOf s)
   unfolding readSheet sheetNumber newNumber oldOf readOld
-  read-by true e h = let z = then-none {a = sectionNumber s} (rw e at h) in rw (e, z .0)
+  read-by true e h = let z = then-none {a = ownIdentityNumber s} (rw e at h) in rw (e, z .0)
   read-by false e h = rw e
 
   pub read-old : readSheet s .number ≡ 0 → readSheet s ≡ readOld (oldOf s)
@@ -100,7 +103,7 @@ module _ (s : List ℕ) (b : Bytes s) where
   bytes-by : (new : Bool) → isNew s ≡ new → readSheet s .number ≡ 0 → BytesOf s ⊎ NewBytesOf s
   unfolding readSheet sheetNumber newNumber readOld
   bytes-by true e h =
-      let z = then-none {a = sectionNumber s} (rw e at h) in
+      let z = then-none {a = ownIdentityNumber s} (rw e at h) in
       inr (record {
         identity = identityAt s;
         in-range = given-in (identityAt s) (section-none s (z .0) .given);

@@ -7,7 +7,7 @@ use lib.IntN.{ℤ, pos}
 use lib.ListN.{length, take, drop}
 use lib.Signed.{_≤ℤ_}
 use Rattle.integers.specs.Bytes.{wordOf, signedOf}
-use Rattle.sheet.specs.Read.{oldNumber, noFigures, readOld}
+use Rattle.sheet.specs.Read.{figuresOf, oldNumber, noFigures, readOld}
 use Rattle.sheet.specs.Forms.{sheetNumber, readSheet, contentsOf}
 use Rattle.sheet.specs.declared.Identity.{Identity}
 
@@ -53,5 +53,7 @@ pub record BothForms : Type 0 where
   pub told-new : (rest : List ℕ) → sheetNumber (2 ∷ rest) ≡ 0 → (contentsOf (2 ∷ rest) .form ≡ 2) × (contentsOf (2 ∷ rest) .identity ≡ record { serial = serialOf rest; day = dayOf rest })
   -- "Beside a refusal each value .. is 0"
   pub refused-figures : (s : List ℕ) → (sheetNumber s ≡ 0 → ⊥) → contentsOf s .figures ≡ noFigures
+  -- where nothing stands, every figure is 0
+  pub no-figures : noFigures ≡ figuresOf []
   pub refused-form : (s : List ℕ) → (sheetNumber s ≡ 0 → ⊥) → contentsOf s .form ≡ 0
   pub refused-identity : (s : List ℕ) → (sheetNumber s ≡ 0 → ⊥) → contentsOf s .identity ≡ record { serial = pos 0; day = pos 0 }

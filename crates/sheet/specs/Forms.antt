@@ -44,11 +44,11 @@ givenNumber i = identityNumber never 2 i
 -- ---- the forms, known by their first count
 
 -- the section in front
-unfoldable pub sectionNumber : List ℕ → ℕ
-sectionNumber s = identityNumber (shortOf (length s)) (countAt s 0) (identityAt s)
+unfoldable pub ownIdentityNumber : List ℕ → ℕ
+ownIdentityNumber s = identityNumber (shortOf (length s)) (countAt s 0) (identityAt s)
 
 unfoldable pub newNumber : List ℕ → ℕ
-newNumber s = sectionNumber s then oldNumber (drop identitySize s)
+newNumber s = ownIdentityNumber s then oldNumber (drop identitySize s)
 
 abbrev pub isNew : List ℕ → Bool
 isNew s = eqb (countAt s 0) 2

@@ -1,5 +1,5 @@
 -- Where each section of a sheet starts (01, "The calibration sheet"), by the counts of points in its tables: "Five sections in this
--- order, each after a one-byte count; a figure is 8 bytes". The cell section starts at 0.
+-- order, each after a one-byte count; a figure is 8 bytes". The cell section starts at 0, in the new form (`Forms.antt`) behind the identity.
 use Prim.Native.Nat.{ℕ, _+_, _*_}
 use Rattle.figures.specs.declared.Calibration.{Calibration}
 

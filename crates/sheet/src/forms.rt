@@ -4,7 +4,7 @@ ghost use mathlib.Core.Bool.{cond};
 ghost use Rattle.sheet.specs.Places.{identitySize};
 ghost use Rattle.sheet.specs.Judge.{shortOf};
 ghost use Rattle.sheet.specs.Read.{oldNumber};
-ghost use Rattle.sheet.specs.Forms.{identityAt, identityNumber, givenNumber, sectionNumber, isNew, newNumber, sheetNumber, readSheet, contentsOf};
+ghost use Rattle.sheet.specs.Forms.{identityAt, identityNumber, givenNumber, ownIdentityNumber, isNew, newNumber, sheetNumber, readSheet, contentsOf};
 use crate::Contents;
 use crate::Identity;
 use crate::Sheet;
@@ -47,8 +47,8 @@ pub fn judge_identity(identity: Identity) -> u8
 }
 
 // The section of a sheet's identity: the number of its first fault, or 0.
-fn section_number(s: &[u8]) -> u8
-    ensures { λ r. ⌜ r ≡ sectionNumber (now (s .entry)) ⌝ }
+fn own_identity_number(s: &[u8]) -> u8
+    ensures { λ r. ⌜ r ≡ ownIdentityNumber (now (s .entry)) ⌝ }
 {
     let count = count_at(s, 0);
     let identity = identity_at(s);
@@ -63,10 +63,10 @@ fn is_new(s: &[u8]) -> bool
 
 // What stands in front of the old sheet: its first fault, or 0; an old sheet has nothing there.
 fn front_number(s: &[u8]) -> u8
-    ensures { λ r. ⌜ r ≡ cond (isNew (now (s .entry))) (sectionNumber (now (s .entry))) 0 ⌝ }
+    ensures { λ r. ⌜ r ≡ cond (isNew (now (s .entry))) (ownIdentityNumber (now (s .entry))) 0 ⌝ }
 {
     if is_new(s) {
-        return section_number(s);
+        return own_identity_number(s);
     }
     0
 }
@@ -93,7 +93,7 @@ pub fn judge_old(sheet: &[u8]) -> u8
 pub fn judge_new(sheet: &[u8]) -> u8
     ensures { λ r. ⌜ r ≡ newNumber (now (sheet .entry)) ⌝ }
 {
-    let section = section_number(sheet);
+    let section = own_identity_number(sheet);
     if section != 0 {
         return section;
     }

@@ -5,7 +5,7 @@ use Rattle.sheet.proofs.forms.front_number.Statement.{statement}
 use Rattle.sheet.proofs.forms.front_number.Tie as tie
 
 returns : tie.Need-returns
-returns c = rw (sym (c .before .before .is-new .ensures) ∙ c .before .if1 .taken) (c .section-number .ensures)
+returns c = rw (sym (c .before .before .is-new .ensures) ∙ c .before .if1 .taken) (c .own-identity-number .ensures)
 
 returns-2 : tie.Need-returns-2
 returns-2 c = rw (sym (c .before .is-new .ensures) ∙ c .if1 .left)

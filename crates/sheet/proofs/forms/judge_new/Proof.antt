@@ -11,16 +11,16 @@ use Rattle.sheet.proofs.forms.judge_new.Tie as tie
 
 returns : tie.Need-returns
 unfolding newNumber
-returns c = stop _ (c .before .section-number .ensures) (c .if1 .taken)
+returns c = stop _ (c .before .own-identity-number .ensures) (c .if1 .taken)
 
 long : tie.Need-sub-judge-old
-long c = section-none _ (sym (c .before .section-number .ensures) ∙ c .if1 .left) .long
+long c = section-none _ (sym (c .before .own-identity-number .ensures) ∙ c .if1 .left) .long
 
 returns-2 : tie.Need-returns-2
 unfolding newNumber
 returns-2 c =
     let s = c .before .before .before .before .before .args .sheet .now in
-    pass (c .before .before .before .section-number .ensures) (c .before .before .if1 .left) (c .judge-old .ensures ∙ ap oldNumber (rest s identitySize))
+    pass (c .before .before .before .own-identity-number .ensures) (c .before .before .if1 .left) (c .judge-old .ensures ∙ ap oldNumber (rest s identitySize))
 
 pub judge-new-spec : {M : Type 1} → statement M
 judge-new-spec =
