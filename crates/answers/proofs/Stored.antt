@@ -14,7 +14,7 @@ use Rattle.panel.specs.Figure.{isFigure, written}
 use Rattle.in_force.specs.declared.Setup.{Setup}
 use Rattle.state.specs.declared.State.{State}
 use Rattle.in_force.specs.InForce.{withZero, withFigures, withCopy, applied, setupWritten, setupActed, setupBy}
-use Rattle.state.specs.Request.{fresh, acted, flagged, stateBy}
+use Rattle.state.specs.Request.{restarted, acted, flagged, stateBy}
 use Rattle.answers.specs.Parts.{applies, changesZero, restarts, changesState, zeroBy, copyBy}
 
 not-true : (b : Bool) → not b ≡ true → b ≡ false
@@ -61,7 +61,7 @@ setup-restarted s (Read r) e = absurd (false≢true e)
 setup-restarted s (Write r x) e = absurd (false≢true e)
 setup-restarted s (Act r) e = rw (ne-eqb r APPLY (λ g. omega (arith, g, eqb-true r RST e)), e)
 
-pub state-restarted : (s : State) (f : Frame) → restarts f ≡ true → stateBy s f ≡ fresh
+pub state-restarted : (s : State) (f : Frame) → restarts f ≡ true → stateBy s f ≡ restarted s
 unfolding restarts acted stateBy
 state-restarted s (Refused n) e = absurd (false≢true e)
 state-restarted s (Read r) e = absurd (false≢true e)

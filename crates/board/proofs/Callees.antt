@@ -89,9 +89,9 @@ use Rattle.in_force.proofs.offer.Met as offer-thm
 use Rattle.in_force.proofs.is_accepted as is-accepted-of
 use Rattle.in_force.proofs.is_accepted.Symbol as is-accepted-def
 use Rattle.in_force.proofs.is_accepted.Met as is-accepted-thm
-use Rattle.state.proofs.fresh as fresh-of
-use Rattle.state.proofs.fresh.Symbol as fresh-def
-use Rattle.state.proofs.fresh.Met as fresh-thm
+use Rattle.state.proofs.restart as restart-of
+use Rattle.state.proofs.restart.Symbol as restart-def
+use Rattle.state.proofs.restart.Met as restart-thm
 use Rattle.converter.proofs.corner.Samples as Q
 use Rattle.converter.proofs.corner.Samples.Laws as Q′
 use Rattle.platform.proofs.weights.Weighed as J
@@ -209,10 +209,10 @@ unused-zero = record {
   makes = λ 𝓤 H A W κs. (LL.makes F.the-type F′.the-plain 𝓤 H A, tt);
 }
 
-abbrev pub fresh : Plain
-fresh = record {
-  callee = record { name = fresh-def.name; routine = fresh-def.routine; ended = fresh-of.ended; clauses = fresh-of.clauses; met = fresh-thm.met; result = S′.mir; typed = λ 𝓤 H A W κs r v is. LL.lawful S.the-type S′.the-laws 𝓤 H A W .typed r _ is .0 };
-  makes = λ 𝓤 H A W κs. tt;
+abbrev pub restart : Plain
+restart = record {
+  callee = record { name = restart-def.name; routine = restart-def.routine; ended = restart-of.ended; clauses = restart-of.clauses; met = restart-thm.met; result = S′.mir; typed = λ 𝓤 H A W κs r v is. LL.lawful S.the-type S′.the-laws 𝓤 H A W .typed r _ is .0 };
+  makes = λ 𝓤 H A W κs. (LL.makes S.the-type S′.the-plain 𝓤 H A, tt);
 }
 
 abbrev pub offer : Plain

@@ -162,7 +162,7 @@ fn store(device: &mut Device, asked: Frame)
         device.setup.figures.system.sz = answers::zero_by(device.setup.figures.system.sz, asked);
     } else if answers::restarts(asked) {
         device.setup.copy = panel::unused_zero(device.setup.figures);
-        device.state = state::fresh();
+        device.state = state::restart(device.state);
     } else if answers::changes_state(asked) {
         device.state = state::state_by(device.state, asked);
     } else {

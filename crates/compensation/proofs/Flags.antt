@@ -1,19 +1,19 @@
 -- Bits of STAT: each flag is raised exactly when its test holds. Assumes nothing.
 use mathlib.Core.Path.{_≡_, refl, _∙_}
 use mathlib.Core.Bool.{Bool, true, false}
-use Prim.Native.Nat.{ℕ, _%_, _^_, max}
+use Prim.Native.Nat.{ℕ, _<_, _%_, _^_, max}
 use native.Mathlib.Omega.{arith}
 use native.Mathlib.Nat.{zero-div}
 use mathlib.Core.Logic.{_↔_}
-use lib.Bits.{bitOr, or-shr, or-step}
-use lib.Dec.{eqb}
+use lib.Bits.{bitOr, or-shr, or-step, or-lt}
+use lib.Dec.{T, eqb, ltb, ltb→lt}
 use lib.IntN.{ℤ, pos, negℤ}
 use lib.Signed.{ltZ, _<ℤ_}
 use borrow.Author.Tests.{eqb-true, eq-eqb}
 use Rattle.integers.proofs.Order.{is-true, lt-yes, yes-lt}
 use Rattle.figures.specs.declared.Calibration.{Calibration}
 use Rattle.compensation.specs.Reading.{rawCell, rawSystem}
-use Rattle.compensation.specs.Stat.{bitAt, Raised, weigh, stat, statOf, tempur, tempor, ecomur, ecomor, crawur, crawor, sysur, sysor, lcinteg}
+use Rattle.compensation.specs.Stat.{bitAt, Raised, weigh, range, tempUnder, tempOver, elecUnder, elecOver, stat, statOf, tempur, tempor, ecomur, ecomor, crawur, crawor, sysur, sysor, lcinteg}
 
 low-or : (x y : ℕ) → bitOr x y % 2 ≡ max (x % 2) (y % 2)
 low-or x y = rw (or-step x y) (omega arith)
@@ -96,3 +96,21 @@ pub stat-bits : (c : Calibration) (elec temp : ℤ) (integrity : ℕ) →
     (stat c elec temp integrity)
 unfolding statOf of-tests
 stat-bits c elec temp integrity = by-tests _ _ _ _ _ _ _ _ _
+
+-- ---- and no others: STAT has 16 bits
+
+weigh-small : (test : Bool) (w : ℕ) → T (ltb w (2 ^ 16)) → weigh test w < 2 ^ 16
+weigh-small true w t = ltb→lt w (2 ^ 16) t
+weigh-small false w t = omega arith
+
+range-small : (lo hi x : ℤ) (under over : ℕ) → T (ltb under (2 ^ 16)) → T (ltb over (2 ^ 16)) → range lo hi x under over < 2 ^ 16
+range-small lo hi x under over t u = or-lt 16 _ _ (weigh-small (ltZ x lo) under t) (weigh-small (ltZ hi x) over u)
+
+pub stat-small : (c : Calibration) (elec temp : ℤ) (integrity : ℕ) → stat c elec temp integrity < 2 ^ 16
+unfolding statOf
+stat-small c elec temp integrity =
+    or-lt 16 _ _ (range-small tempUnder tempOver temp 4 8 tt tt)
+    (or-lt 16 _ _ (range-small elecUnder elecOver elec 16 32 tt tt)
+    (or-lt 16 _ _ (range-small (c .cell .cmin) (c .cell .cmax) (rawCell c elec temp) 64 128 tt tt)
+    (or-lt 16 _ _ (range-small (c .system .smin) (c .system .smax) (rawSystem c elec temp) 256 512 tt tt)
+    (weigh-small (eqb integrity 1) 2048 tt))))

@@ -36,14 +36,13 @@ use Rattle.modbus.specs.declared.frame.Frame.{Frame}
 use Rattle.modbus.specs.declared.frame.Frame.the-variants.{Write, Act}
 use Rattle.state.specs.Reading.{badReading, stateAfterReading}
 use Rattle.in_force.specs.InForce.{withFigures, withCopy, zeroSteps, offered, copyFits, applied, setupWritten, setupActed, setupBy}
-use Rattle.state.specs.Request.{flagWhole, acted, flagged, stateBy, fresh, snapped, peaksAt, peaksReset}
+use Rattle.state.specs.Request.{flagWhole, acted, flagged, stateBy, restarted, snapped, peaksAt, peaksReset}
 use Rattle.answers.specs.Register.{stepsAt, readingFloat, readingAt, registerAt, answerOf, onCopy, numberOf}
 use Rattle.answers.specs.Parts.{obeys}
 use Rattle.state.specs.Report.{reportOf}
 use Rattle.state.specs.declared.State.{State}
 use Rattle.answers.specs.declared.Answer.{Answer}
 use Rattle.answers.specs.declared.Answer.the-variants.{Value, Done, Refused}
-use Rattle.converter.specs.Making.{started}
 use Rattle.converter.specs.Corner.{cornerRefused}
 use Rattle.converter.specs.Call.{Call, reading, frame, report, corner, obeyed, afterCall, answerToBytes, number, replyWith, reply}
 use Rattle.converter.specs.Reached.{Reached, Serving}
@@ -228,21 +227,20 @@ module _ (d : Device) (s : List ℕ) (room : ℕ) where
   unfolding setupBy setupWritten isFigure stateBy flagged registerAt
   flag-shown h x e = shown h FLAG refl (ap (λ (g : Device). register g FLAG) (does (Write FLAG x) e))
 
-  -- "RST forgets readings, snapshot and filter", keeps the figures, sets the copy back to them and leaves FLAG 32768: the device is one just
-  -- started
-  pub rst-starts : judged s room (d .setup .station) ≡ Act RST → after ≡ started (withCopy (d .setup) (unusedZero (d .setup .figures)))
+  -- "RST forgets readings, snapshot and filter", keeps the figures, sets the copy back to them and adds REBOOT to FLAG
+  pub rst-restarts : judged s room (d .setup .station) ≡ Act RST → after ≡ record { setup = withCopy (d .setup) (unusedZero (d .setup .figures)); state = restarted (d .state) }
   unfolding setupBy setupActed acted stateBy
-  rst-starts e = does (Act RST) e
+  rst-restarts e = does (Act RST) e
 
-  -- so the next reads show REBOOT, the SZ that was in force and no snapshot, and a report is refused
+  -- so the next reads show the flags that stood beside REBOOT, the SZ that was in force and no snapshot, and a report is refused
   pub rst-shown : Reached d → judged s room (d .setup .station) ≡ Act RST
-      → Sends after FLAG (wholeFloat 32768) × Sends after SZ (stepFloat (d .setup .figures .system .sz)) × Withholds after SYSN 11 × (reportOf (after .state .readings) .number ≡ 10)
-  unfolding registerAt fresh reportOf
+      → Sends after FLAG (wholeFloat (bitOr (d .state .flag) 32768)) × Sends after SZ (stepFloat (d .setup .figures .system .sz)) × Withholds after SYSN 11 × (reportOf (after .state .readings) .number ≡ 10)
+  unfolding registerAt restarted reportOf
   rst-shown h e = (
-    shown h FLAG refl (ap (λ (g : Device). register g FLAG) (rst-starts e)),
-    shown h SZ refl (ap (λ (g : Device). register g SZ) (rst-starts e)),
-    withholds after (reached-station (reached-step h (frame s room))) SYSN refl (listed-at SYSN refl) (ap (λ (g : Device). register g SYSN) (rst-starts e)),
-    ap (λ (g : Device). reportOf (g .state .readings) .number) (rst-starts e),
+    shown h FLAG refl (ap (λ (g : Device). register g FLAG) (rst-restarts e)),
+    shown h SZ refl (ap (λ (g : Device). register g SZ) (rst-restarts e)),
+    withholds after (reached-station (reached-step h (frame s room))) SYSN refl (listed-at SYSN refl) (ap (λ (g : Device). register g SYSN) (rst-restarts e)),
+    ap (λ (g : Device). reportOf (g .state .readings) .number) (rst-restarts e),
   )
 
   -- "a peak reset, which sets both to the present SYS"

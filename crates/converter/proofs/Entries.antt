@@ -27,7 +27,7 @@ use Rattle.state.proofs.Remembered.{remembered-first}
 use borrow.Author.Tests.{ne-eqb, eqb-true}
 use native.Mathlib.Omega.{arith}
 use Rattle.in_force.specs.InForce.{copyFits, applied, setupActed, setupBy}
-use Rattle.state.specs.Request.{fresh, snapped, peaksReset, acted, stateBy}
+use Rattle.state.specs.Request.{restarted, snapped, peaksReset, acted, stateBy}
 use Rattle.answers.specs.Register.{answerOf, numberOf}
 use Rattle.answers.specs.Parts.{isRead, applies, isObeyed, obeys}
 use Rattle.in_force.specs.declared.Setup.{Setup}
@@ -90,7 +90,7 @@ sys-joined r m temp v e = sym (ap (λ (s : State). s .readings .values .sys) e)
 not-acted : (d : Device) (apply rst snap reset fits : Bool) (s t : Setup) → (apply ≡ true → (rst ≡ false) × (snap ≡ false) × (reset ≡ false)) → cond apply fits (rst || d .state .readings .any) ≡ false
     → record {
       setup = cond apply (cond fits s (d .setup)) (cond rst t (d .setup));
-      state = cond rst fresh (cond snap (snapped (d .state)) (cond reset (peaksReset (d .state)) (d .state)));
+      state = cond rst (restarted (d .state)) (cond snap (snapped (d .state)) (cond reset (peaksReset (d .state)) (d .state)));
     } ≡ d
 unfolding snapped peaksReset
 not-acted d true rst snap reset fits s t n e = rw (e, n refl .0, n refl .1, n refl .2)

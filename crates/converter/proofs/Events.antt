@@ -2,7 +2,7 @@
 use Prim.Native.Nat.{ℕ, zero, suc}
 use mathlib.Core.Path.{_≡_, refl, ap, _∙_}
 use mathlib.Core.Logic.{_↔_, _⊎_, inl, inr}
-use mathlib.Core.List.{List, [], _∷_, _++_, List·Memᴰ, List·Memᴰ·cases-cons, List·Memᴰ·head, List·Memᴰ·tail, List·Memᴰ·not-nil, head-eq-of-cons-eq, tail-eq-of-cons-eq}
+use mathlib.Core.List.{List, [], _∷_, _++_, List·Memᴰ, List·Memᴰ·cases-cons, List·Memᴰ·head, List·Memᴰ·tail, List·Memᴰ·not-nil, head-eq-of-cons-eq, tail-eq-of-cons-eq, nil≢cons}
 use native.Mathlib.Omega.{arith}
 use lib.Bits.{bitOr, bitAnd}
 use Rattle.compensation.specs.Stat.{bitAt, Raised}
@@ -102,10 +102,10 @@ latch-kept b f m es h = (
   λ r. omega (arith, bit-and b f m, from-kept r .0, h .1 (from-kept r .1)),
 )
 
--- all cleared, then m raised
-pub latch-anew : (b m : ℕ) (es : List Event) → Latched b m (raised m ∷ kept 0 ∷ es)
-latch-anew b m es = (λ t. here t, λ r. go (from-raised r))
+-- before a start
+pub latch-none : (b : ℕ) → Latched b 0 []
+latch-none b = (λ t. absurd (omega (arith, t, zero-bit b)), λ r. absurd (no-split (r .later) (raised (r .bits)) (r .earlier) (r .split)))
   where
-    go : (Raised b m) ⊎ RaisedSince b (kept 0 ∷ es) → Raised b m
-    go (inl t) = t
-    go (inr r) = omega (arith, from-kept r .0, zero-bit b)
+    no-split : (later : List Event) (e : Event) (earlier : List Event) → [] ≡ later ++ (e ∷ earlier) → ⊥
+    no-split [] e earlier p = nil≢cons p
+    no-split (x ∷ later) e earlier p = nil≢cons p

@@ -26,10 +26,10 @@ use Rattle.state.specs.Reading.{outside, badReading, larger, smaller, peakAfter
 use Rattle.panel.specs.Figure.{isFigure, written, cellWith, temperaturePointWith, temperatureWith, linearityPointWith, linearityWith, systemWith, filterWith, withFigure}
 use Rattle.sheet.specs.Judge.{shortOf, wrongCount, outOfRange, notBelow, tooSteep, cellNumber, temperatureNumber, temperaturePointNumber, linearityNumber, linearityPointNumber, systemNumber, filterNumber, sectionsNumber, figuresNumber}
 use Rattle.in_force.specs.InForce.{copyFits, applied, setupWritten, setupActed, setupBy}
-use Rattle.state.specs.Request.{fresh, snapped, acted, flagged, stateBy}
+use Rattle.state.specs.Request.{fresh, restarted, snapped, acted, flagged, stateBy}
 use Rattle.converter.specs.Making.{stationFits, started, made}
 use Rattle.converter.specs.Call as call
-use Rattle.converter.specs.Call.{Call, run}
+use Rattle.converter.specs.Call.{Call, afterCall, run}
 use Rattle.converter.specs.Reached.{Reached}
 use Rattle.converter.specs.declared.Device.{Device}
 use Rattle.converter.specs.declared.Outcome.{Outcome}
@@ -52,6 +52,10 @@ calls =
     ∷ call.frame (0x34 ∷ 0x10 ∷ 0x00 ∷ 0xC6 ∷ 0x00 ∷ 0x02 ∷ 0x04 ∷ 0x00 ∷ 0x00 ∷ 0x00 ∷ 0x00 ∷ 0x91 ∷ 0x19 ∷ []) 9
     ∷ []
 
+-- RST
+abbrev rst : Call
+rst = call.frame (0x34 ∷ 0x10 ∷ 0x00 ∷ 0xC8 ∷ 0x00 ∷ 0x02 ∷ 0x04 ∷ 0x00 ∷ 0x00 ∷ 0x00 ∷ 0x00 ∷ 0x10 ∷ 0x95 ∷ []) 9
+
 pub record Example (d : Device) : Type 0 where
   pub reached : Reached d
   pub reading : d .state .readings .any ≡ true
@@ -61,12 +65,14 @@ pub record Example (d : Device) : Type 0 where
   pub sysn : d .state .snapshot .sysn ≡ pos 9830400
   pub sz : d .setup .figures .system .sz ≡ pos 655360
   pub cgai : d .setup .figures .cell .cgai ≡ pos 536870912
+  -- an overload that outlives RST: 32768 (REBOOT), 128 (CRAWOR), 32 (ECOMOR)
+  pub after-rst : afterCall d rst .state .flag ≡ 32928
 
 pub example : Example (run start calls)
 unfolding roundDiv roundMagnitude between interpolated defaultSheet temperatures linearities hold filtered scaled y rawCell craw cell rawSystem sraw sys bitAt statOf valuesOf takes nearest counted
     rangeOf ofBits shifted shifts withByte accessOf checked toUs forUs accessAsked writeOf writeAsked judged outside badReading larger smaller peakAfter trofAfter readingsAfter reading.stateAfterValues reading.stateAfterReading unusedZero isFigure written cellWith
     temperaturePointWith temperatureWith linearityPointWith linearityWith systemWith filterWith withFigure shortOf wrongCount outOfRange notBelow tooSteep cellNumber temperatureNumber temperaturePointNumber linearityNumber
-    linearityPointNumber systemNumber filterNumber sectionsNumber figuresNumber copyFits applied setupWritten setupActed setupBy fresh snapped acted flagged stateBy
+    linearityPointNumber systemNumber filterNumber sectionsNumber figuresNumber copyFits applied setupWritten setupActed setupBy fresh restarted snapped acted flagged stateBy
 example = record {
   reached = record { sheet = sheetBytes defaultSheet; station = 52; accepted = ap (λ (r : Outcome). r .number) default-made; calls = calls; is = sym (ap (λ (r : Outcome). run (r .device) calls) default-made) };
   reading = refl;
@@ -76,4 +82,5 @@ example = record {
   sysn = refl;
   sz = refl;
   cgai = refl;
+  after-rst = refl;
 }

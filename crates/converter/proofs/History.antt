@@ -26,7 +26,7 @@ use Rattle.modbus.specs.declared.frame.Frame.the-variants.{Refused, Read, Write
 use Rattle.state.specs.Reading.{badReading, peakAfter, trofAfter, readingsAfter, rememberedOf, stateAfterReading, stateAfterValues}
 use Rattle.state.specs.ForCode.{heldAfter}
 use Rattle.in_force.specs.InForce.{setupBy}
-use Rattle.state.specs.Request.{reboot, flagWhole, fresh, snapped, peaksAt, peaksReset, acted, flagged, stateBy}
+use Rattle.state.specs.Request.{noReadings, reboot, flagWhole, fresh, restarted, snapped, peaksAt, peaksReset, acted, flagged, stateBy}
 use Rattle.in_force.specs.declared.Setup.{Setup}
 use Rattle.state.specs.declared.Readings.{Readings}
 use Rattle.state.specs.declared.State.{State}
@@ -40,7 +40,7 @@ use Rattle.converter.specs.Log.{Kept, valued, Entry, peakReset, Event, L
 use Rattle.converter.specs.History.{sysSince, Largest, Smallest, Right}
 use Rattle.converter.specs.Jumps.{FilteredAfter, EachFiltered}
 use Rattle.converter.proofs.Neighbours.{none-filtered, more-filtered, reset-filtered}
-use Rattle.converter.proofs.Events.{Latched, latch-raised, latch-kept, latch-anew}
+use Rattle.converter.proofs.Events.{Latched, latch-raised, latch-kept, latch-none}
 use Rattle.converter.proofs.Extremes.{largest-one, smallest-one, largest-more, smallest-more}
 use Rattle.converter.proofs.Made.{making-accepted, making-sound}
 use Rattle.converter.proofs.Sound.{Sound, started-sound, step-sound, good-elec, held-within}
@@ -63,11 +63,19 @@ pub record Tracks (d : Device) (l : Log) : Type 0 where
   pub latched : (b : ℕ) → Latched b (d .state .flag) (l .events)
   pub sound : Sound d
 
--- ---- a start
+-- ---- a start, and RST
 
-begins : (s s′ : Setup) (es : List Event) → s ≡ s′ → Sound (started s) → Tracks (started s) (begun s′ es)
+nothing-told : Tells noReadings none []
+nothing-told = record { filter-is = refl; follows = (refl, refl); each-filtered = none-filtered }
+
+starts : (s : Setup) → Sound (started s) → Tracks (started s) (begun s [])
 unfolding fresh
-begins s s′ es e h = record { setup-is = e; tells = record { filter-is = refl; follows = (refl, refl); each-filtered = none-filtered }; latched = λ b. latch-anew b reboot es; sound = h }
+starts s h = record { setup-is = refl; tells = nothing-told; latched = λ b. latch-raised b 0 reboot [] (latch-none b); sound = h }
+
+restarts : (s s′ : Setup) (t : State) (events : List Event) → s ≡ s′ → ((b : ℕ) → Latched b (t .flag) events)
+    → let after : Device = record { setup = s; state = restarted t } in Sound after → Tracks after (begun s′ events)
+unfolding restarted
+restarts s s′ t events e l h = record { setup-is = e; tells = nothing-told; latched = λ b. latch-raised b (t .flag) reboot events (l b); sound = h }
 
 -- ---- a reading
 
@@ -180,7 +188,7 @@ reset-tells s m es t (some k) e =
 
 -- ---- a frame
 
-peaks-flag : (s : State) → peaksReset s .flag ≡ s .flag
+pub peaks-flag : (s : State) → peaksReset s .flag ≡ s .flag
 unfolding peaksReset
 peaks-flag s = go (s .readings .any)
   where
@@ -189,7 +197,7 @@ peaks-flag s = go (s .readings .any)
     go false = refl
 
 -- SNAP leaves readings and FLAG
-snap-leaves : (s : State) → (snapped s .readings ≡ s .readings) × (snapped s .flag ≡ s .flag)
+pub snap-leaves : (s : State) → (snapped s .readings ≡ s .readings) × (snapped s .flag ≡ s .flag)
 unfolding snapped
 snap-leaves s = go (s .readings .any)
   where
@@ -217,9 +225,9 @@ acted-state s m es events t l false true n = (reset-tells s m es t (latest es) r
 acted-state s m es events t l false false n = (t, l)
 
 acts : (d : Device) (l : Log) → Tracks d l → (s s′ : Setup) → s ≡ s′ → (rst snap reset : Bool) → (snap ≡ true → reset ≡ false)
-    → let after : Device = record { setup = s; state = cond rst fresh (cond snap (snapped (d .state)) (cond reset (peaksReset (d .state)) (d .state))) } in
+    → let after : Device = record { setup = s; state = cond rst (restarted (d .state)) (cond snap (snapped (d .state)) (cond reset (peaksReset (d .state)) (d .state))) } in
     Sound after → Tracks after (cond rst (begun s′ (l .events)) (record { setup = s′; filter = l .filter; readings = cond reset (resetPeaks (latest (l .readings)) (l .readings)) (l .readings); events = l .events }))
-acts d l t s s′ e true snap reset n h = begins s s′ (l .events) e h
+acts d l t s s′ e true snap reset n h = restarts s s′ (d .state) (l .events) e (t .latched) h
 acts d l t s s′ e false snap reset n h =
     let p = acted-state (d .state) (l .filter) (l .readings) (l .events) (t .tells) (t .latched) snap reset n in
     record { setup-is = e; tells = p .0; latched = p .1; sound = h }
@@ -257,4 +265,4 @@ pub tracks : (sheet : List ℕ) (station : ℕ) → made sheet station .number �
 tracks sheet station h calls =
     let s : Setup = setupOf sheet station in
     subst (λ (d : Device). Tracks (run d calls) (logOf sheet station calls)) (sym (making-accepted sheet station h .starts))
-    (runs (started s) (begun s []) (begins s s [] refl (started-sound s (making-sound sheet station h))) calls)
+    (runs (started s) (begun s []) (starts s (started-sound s (making-sound sheet station h))) calls)

@@ -13,7 +13,7 @@ use Rattle.modbus.specs.Frame.{judged}
 use Rattle.modbus.specs.declared.frame.Frame.{Frame}
 use Rattle.modbus.specs.declared.frame.Frame.the-variants.{Refused, Read, Write, Act}
 use Rattle.state.specs.Reading.{badReading, stateAfterReading, stateAfterValues}
-use Rattle.state.specs.Request.{fresh, snapped, peaksReset, acted, flagged, stateBy}
+use Rattle.state.specs.Request.{fresh, restarted, snapped, peaksReset, acted, flagged, stateBy}
 use Rattle.in_force.specs.declared.Setup.{Setup}
 use Rattle.state.specs.declared.Snapshot.{Snapshot}
 use Rattle.state.specs.declared.State.{State}
@@ -39,8 +39,8 @@ module _ (d : Device) (l : Log) (t : Tracks d l) (z : Option ℤ) (h : Taken (d 
   snaps (some k) f = rw (f .present) (refl, ap (λ (v : Values). v .sys) (f .values-are))
 
   acts : (rst snap reset : Bool)
-      → Taken (cond rst fresh (cond snap (snapped (d .state)) (cond reset (peaksReset (d .state)) (d .state))) .snapshot) (cond rst none (cond snap (snapBy (latest (l .readings)) z) z))
-  unfolding fresh peaksReset
+      → Taken (cond rst (restarted (d .state)) (cond snap (snapped (d .state)) (cond reset (peaksReset (d .state)) (d .state))) .snapshot) (cond rst none (cond snap (snapBy (latest (l .readings)) z) z))
+  unfolding restarted peaksReset
   acts true snap reset = refl
   acts false true reset = snaps (latest (l .readings)) (t .tells .follows)
   acts false false true = pick (d .state .readings .any) _ _ (λ (s : State). Taken (s .snapshot) z) (λ e. h) (λ e. h)

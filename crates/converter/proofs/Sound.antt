@@ -2,8 +2,10 @@
 -- entries need no more of a device. Assumes nothing.
 use mathlib.Core.Path.{_≡_, refl, subst}
 use mathlib.Core.Bool.{Bool, true, false, not, _||_}
-use Prim.Native.Nat.{ℕ, _≤_}
+use Prim.Native.Nat.{ℕ, _≤_, _<_, _^_}
+use native.Mathlib.Nat.{lt-of-le-of-lt}
 use native.Mathlib.Omega.{arith}
+use lib.Bits.{or-lt, and-le-l}
 use lib.Dec.{eqb, ltb, lit≤}
 use lib.IntN.{ℤ, pos, negℤ}
 use lib.Signed.{ltZ}
@@ -21,6 +23,7 @@ use Rattle.compensation.specs.ReadingLimits.{elecMost, tempMost}
 use Rattle.compensation.specs.Reading.{sys}
 use Rattle.compensation.specs.Values.{valuesOf}
 use Rattle.compensation.proofs.FilterHull.{filtered-within}
+use Rattle.compensation.proofs.Flags.{stat-small}
 use Rattle.compensation.proofs.Magnitudes.{magnitudes}
 use Rattle.binary32.proofs.Counted.{counted-within}
 use Rattle.register.specs.Number.{FLAG, SZ, APPLY, RST, SNAP, PEAKRESET}
@@ -37,7 +40,7 @@ use Rattle.modbus.specs.Frame.{judged}
 use Rattle.state.specs.Reading.{outside, beyond, badReading, larger, smaller, peakAfter, trofAfter, readingsAfter, stateAfterReading, stateAfterValues}
 use Rattle.state.specs.ForCode.{heldAfter}
 use Rattle.in_force.specs.InForce.{withZero, zeroSteps, withFigures, withCopy, offered, copyFits, applied, setupWritten, setupActed, setupBy}
-use Rattle.state.specs.Request.{noReadings, fresh, snapped, peaksAt, peaksReset, acted, flagged, stateBy}
+use Rattle.state.specs.Request.{noReadings, flagWhole, fresh, restarted, snapped, peaksAt, peaksReset, acted, flagged, stateBy}
 use Rattle.state.proofs.Remembered.{held-by}
 use Rattle.state.specs.Within.{valueMost, ReadingsWithin}
 use Rattle.answers.specs.Within.{StateWithin}
@@ -58,6 +61,7 @@ pub record ReadingsSound (r : Readings) : Type 0 where
 
 pub record StateSound (s : State) : Type 0 where
   pub readings-ok : ReadingsSound (s .readings)
+  pub flag-in : s .flag < 2 ^ 16
   pub sysn-in : (s .snapshot .sysn) within valueMost
 
 -- figures in force that keep all limits, and a copy of which each figure is in its register's range
@@ -136,12 +140,13 @@ join-sound c r input elec temp integrity ok h i e t =
     }
 
 read-sound : (d : Device) (elec temp : ℤ) (integrity : ℕ) → Sound d → badReading elec temp integrity ≡ false → Sound (afterReading d elec temp integrity)
-unfolding stateAfterReading stateAfterValues
+unfolding valuesOf stateAfterReading stateAfterValues
 read-sound d elec temp integrity h e = record {
   setup-ok = h .setup-ok;
   state-ok = record {
     readings-ok = join-sound (d .setup .figures) (d .state .readings) elec _ temp integrity (h .setup-ok .acceptable) (h .state-ok .readings-ok) (good-elec elec temp integrity e)
         (held-within (d .setup .figures) (d .state .readings) elec (h .setup-ok .acceptable) (h .state-ok .readings-ok .held-in) (good-elec elec temp integrity e)) (good-temp elec temp integrity e);
+    flag-in = or-lt 16 _ _ (h .state-ok .flag-in) (stat-small (d .setup .figures) _ temp integrity);
     sysn-in = h .state-ok .sysn-in;
   };
 }
@@ -208,7 +213,11 @@ none-within = record { elec-in = nought; temp-in = nought; craw-in = nought; cel
 
 fresh-sound : StateSound fresh
 unfolding fresh
-fresh-sound = record { readings-ok = record { input-in = nought; held-in = nought; values-in = none-within }; sysn-in = nought }
+fresh-sound = record { readings-ok = record { input-in = nought; held-in = nought; values-in = none-within }; flag-in = omega arith; sysn-in = nought }
+
+restarted-sound : (s : State) → StateSound s → StateSound (restarted s)
+unfolding fresh restarted
+restarted-sound s h = record { readings-ok = fresh-sound .readings-ok; flag-in = or-lt 16 _ _ (h .flag-in) (fresh-sound .flag-in); sysn-in = fresh-sound .sysn-in }
 
 peaks-within : (r : Readings) → ReadingsWithin r → ReadingsWithin (peaksAt r)
 peaks-within r w = record {
@@ -224,22 +233,22 @@ peaks-within r w = record {
 
 snap-sound : (s : State) → StateSound s → StateSound (snapped s)
 unfolding snapped
-snap-sound s h = pick (s .readings .any) _ s StateSound (λ e. record { readings-ok = h .readings-ok; sysn-in = h .readings-ok .values-in .sys-in }) (λ e. h)
+snap-sound s h = pick (s .readings .any) _ s StateSound (λ e. record { readings-ok = h .readings-ok; flag-in = h .flag-in; sysn-in = h .readings-ok .values-in .sys-in }) (λ e. h)
 
 reset-sound : (s : State) → StateSound s → StateSound (peaksReset s)
 unfolding peaksReset
 reset-sound s h =
     pick (s .readings .any) _ s StateSound
-    (λ e. record { readings-ok = record { input-in = h .readings-ok .input-in; held-in = h .readings-ok .held-in; values-in = peaks-within (s .readings) (h .readings-ok .values-in) }; sysn-in = h .sysn-in })
+    (λ e. record { readings-ok = record { input-in = h .readings-ok .input-in; held-in = h .readings-ok .held-in; values-in = peaks-within (s .readings) (h .readings-ok .values-in) }; flag-in = h .flag-in; sysn-in = h .sysn-in })
     (λ e. h)
 
 state-sound : (s : State) (f : Frame) → StateSound s → StateSound (stateBy s f)
 unfolding stateBy flagged acted
 state-sound s (Refused n) h = h
 state-sound s (Read r) h = h
-state-sound s (Write r x) h = pick (eqb r FLAG) _ s StateSound (λ e. record { readings-ok = h .readings-ok; sysn-in = h .sysn-in }) (λ e. h)
+state-sound s (Write r x) h = pick (eqb r FLAG) _ s StateSound (λ e. record { readings-ok = h .readings-ok; flag-in = lt-of-le-of-lt (and-le-l (s .flag) (flagWhole x)) (h .flag-in); sysn-in = h .sysn-in }) (λ e. h)
 state-sound s (Act r) h =
-    pick (eqb r RST) fresh _ StateSound (λ e. fresh-sound)
+    pick (eqb r RST) (restarted s) _ StateSound (λ e. restarted-sound s h)
     (λ e. pick (eqb r SNAP) (snapped s) _ StateSound (λ e. snap-sound s h) (λ e. pick (eqb r PEAKRESET) (peaksReset s) s StateSound (λ e. reset-sound s h) (λ e. h)))
 
 -- ---- a start, one call, and a list of them

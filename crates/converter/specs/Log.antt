@@ -59,10 +59,10 @@ latest [] = none
 latest (joined k ∷ es) = some k
 latest (peakReset ∷ es) = latest es
 
--- "start and RST drop readings, peak resets and held value", and "RST forgets" the previous input (Change 2); all bits are cleared, then
--- REBOOT is raised
+-- "start and RST drop readings, peak resets and held value", and "RST forgets" the previous input (Change 2). REBOOT is raised and nothing
+-- cleared: "A flag's history then runs back to the start or to the last write that lacked its bit, past all resets." (Change 7)
 abbrev pub begun : Setup → List Event → Log
-begun setup events = record { setup = setup; filter = none; readings = []; events = raised reboot ∷ kept 0 ∷ events }
+begun setup events = record { setup = setup; filter = none; readings = []; events = raised reboot ∷ events }
 
 abbrev pub keptOf : Log → ℤ → ℤ → ℕ → Kept
 keptOf l input temp integrity =

@@ -1,8 +1,8 @@
 -- What a frame makes of a device but for its figures (01, "The bus"): "SNAP copies SYS to SYSN. RST forgets readings, snapshot and
--- filter."
+-- filter." And of FLAG, "RST shall now add REBOOT to FLAG and clear nothing; only a write to FLAG clears." (Change 7)
 use mathlib.Core.Bool.{true, false, cond}
 use Prim.Native.Nat.{ℕ}
-use lib.Bits.{bitAnd}
+use lib.Bits.{bitAnd, bitOr}
 use lib.Dec.{eqb}
 use lib.Ieee.{Float}
 use lib.IntN.{pos, natAbs}
@@ -26,12 +26,16 @@ noReadings = record { any = false; input = pos 0; elec = pos 0; temp = pos 0; va
 abbrev pub noSnapshot : Snapshot
 noSnapshot = record { taken = false; sysn = pos 0 }
 
--- "a start or RST clears all, then raises 32768 (REBOOT)"
 abbrev pub reboot : ℕ
 reboot = 32768
 
+-- "a start .. clears all, then raises 32768 (REBOOT)"
 unfoldable pub fresh : State
 fresh = record { readings = noReadings; flag = reboot; snapshot = noSnapshot }
+
+-- "RST shall now add REBOOT to FLAG and clear nothing" (Change 7)
+unfoldable pub restarted : State → State
+restarted s = record { readings = noReadings; flag = bitOr (s .flag) reboot; snapshot = noSnapshot }
 
 -- SNAP, and a peak reset, "which sets both to the present SYS"; 10 "before the first reading since start or RST"
 unfoldable pub snapped : State → State
@@ -48,7 +52,7 @@ peaksReset s = cond (s .readings .any) (record { readings = peaksAt (s .readings
 
 -- the actions; 99 is none of the state
 unfoldable pub acted : State → ℕ → State
-acted s r = cond (eqb r RST) fresh (cond (eqb r SNAP) (snapped s) (cond (eqb r PEAKRESET) (peaksReset s) s))
+acted s r = cond (eqb r RST) (restarted s) (cond (eqb r SNAP) (snapped s) (cond (eqb r PEAKRESET) (peaksReset s) s))
 
 -- "FLAG takes whole 0 to 65,535"
 abbrev pub flagWhole : Float → ℕ

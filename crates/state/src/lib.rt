@@ -12,6 +12,7 @@ pub use reporting::Report;
 pub use reporting::Reported;
 pub use reporting::report_of;
 pub use requests::fresh;
+pub use requests::restart;
 pub use requests::state_by;
 
 // What the readings since the start or RST left: whether there is one; of the last, its input before the filter, ELEC as the filter

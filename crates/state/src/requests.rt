@@ -1,13 +1,13 @@
 // What a frame makes of a device but for its figures (01, "The bus"). Its bytes are judged before (`modbus`).
 ghost use mathlib.Core.Path.{_≡_};
-ghost use Rattle.state.specs.Request.{fresh as freshState, snapped, peaksReset, acted, flagWhole, flagged, stateBy};
+ghost use Rattle.state.specs.Request.{fresh as freshState, restarted, snapped, peaksReset, acted, flagWhole, flagged, stateBy};
 use crate::Readings;
 use crate::Snapshot;
 use crate::State;
 use compensation::Values;
 use modbus::frame::Frame;
 
-// A start, or RST: no reading, no snapshot, and FLAG says REBOOT.
+// A start: no reading, no snapshot, and FLAG says REBOOT.
 pub fn fresh() -> State
     ensures { λ r. ⌜ r ≡ freshState ⌝ }
 {
@@ -34,6 +34,20 @@ pub fn fresh() -> State
     State {
         readings,
         flag: 32_768,
+        snapshot,
+    }
+}
+
+// RST: as at a start, but for the flags that stood, to which REBOOT is added (02, Change 7).
+pub fn restart(state: State) -> State
+    ensures { λ n. ⌜ n ≡ restarted state ⌝ }
+{
+    let start = fresh();
+    let readings = start.readings;
+    let snapshot = start.snapshot;
+    State {
+        readings,
+        flag: state.flag | 32_768,
         snapshot,
     }
 }
@@ -75,7 +89,7 @@ fn act(state: State, register: u32) -> State
     ensures { λ n. ⌜ n ≡ acted state register ⌝ }
 {
     if register == register::RST {
-        return fresh();
+        return restart(state);
     }
     if register == register::SNAP {
         return snap(state);

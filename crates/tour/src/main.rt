@@ -104,17 +104,23 @@ fn write_zero(device: Device) -> Device
     send(next, b"read 7", b"\x34\x03\x00\x0e\x00\x02\xa0\x6d")
 }
 
-// RST (100) forgets the readings: no report until the next one, and FLAG says REBOOT alone.
+// RST (100) forgets the readings: no report until the next one. FLAG still warns, until a write that lacks the bits (02, Change 7).
 fn restart(device: Device) -> Device
     requires { ⌜ Reached device ⌝ }
     ensures { λ r. ⌜ Reached r ⌝ }
 {
-    let next = send(
+    let mut next = send(
         device,
         b"write RST",
         b"\x34\x10\x00\xc8\x00\x02\x04\x00\x00\x00\x00\x10\x95",
     );
     print_report(b"after RST", next);
+    next = send(next, b"read FLAG", b"\x34\x03\x00\x1c\x00\x02\x00\x68");
+    next = send(
+        next,
+        b"write FLAG",
+        b"\x34\x10\x00\x1c\x00\x02\x04\x00\x00\x47\x00\x2f\xca",
+    );
     send(next, b"read FLAG", b"\x34\x03\x00\x1c\x00\x02\x00\x68")
 }
 

@@ -8,7 +8,7 @@ use Rattle.figures.proofs.Calibration.Laws as F′
 use Rattle.modbus.specs.declared.frame.Frame.{Frame}
 use Rattle.modbus.proofs.frame.Frame as R
 use Rattle.modbus.proofs.frame.Frame.Laws as R′
-use Rattle.state.specs.Request.{fresh as started, stateBy}
+use Rattle.state.specs.Request.{restarted, stateBy}
 use Rattle.answers.specs.Parts.{applies, changesZero, restarts as restartsBy, changesState, zeroBy, copyBy}
 use Rattle.state.specs.declared.State.{State}
 use Rattle.answers.proofs.Stored.{setup-zeroed, state-zeroed, setup-restarted, state-restarted, setup-kept, setup-copied, state-kept}
@@ -20,7 +20,7 @@ use Rattle.walks.proofs.Walk.{none, some, _≡_, refl, ℕ, [], _∷_, List, �
 use Rattle.walks.proofs.Walk.{by, move, keep, drop, split, join, fsplit, fsplit3, fjoin, fjoin3, feqI, suffices, frame, done, unit-lit, look, init, stop, hop, fld, from, load, of-opd, no-more, assigns, first, returns, enter, alloc1, alloc0, params1, pass1, pass0, Body, FmC, owns, Is, mem}
 use Rattle.walks.proofs.Walk.{RefT, MutRef, ptr-vals, mut-tells, plain, owned, nothing, onEntry, says, needs, Stays, stay-ref, walkOf, AllGo, goes-ref, Walks, ends-at, walked, stay-none, goes-none, yes}
 use Rattle.walks.proofs.Call.{Callee, AllKnown, calls-plain, local}
-use Rattle.board.proofs.Callees.{changes-zero, zero-by, restarts, unused-zero, fresh, changes-state, state-by, copy-by}
+use Rattle.board.proofs.Callees.{changes-zero, zero-by, restarts, unused-zero, restart, changes-state, state-by, copy-by}
 use Rattle.walks.proofs.Branch.{branches-on, assigns-to}
 use Rattle.walks.proofs.Entered.{walk-entered}
 use Rattle.walks.proofs.Locals.{frees-all}
@@ -37,7 +37,7 @@ abbrev stayed : Stays (f.ended .signature .params) (f.ended .kept)
 stayed = (stay-ref (0 ∷ []) tt (plain (λ _. D.the-row)), (stay-none (λ _. R.the-row) yes, tt))
 
 abbrev callees : List Callee
-callees = changes-zero .callee ∷ zero-by .callee ∷ restarts .callee ∷ unused-zero .callee ∷ fresh .callee ∷ changes-state .callee ∷ state-by .callee ∷ copy-by .callee ∷ []
+callees = changes-zero .callee ∷ zero-by .callee ∷ restarts .callee ∷ unused-zero .callee ∷ restart .callee ∷ changes-state .callee ∷ state-by .callee ∷ copy-by .callee ∷ []
 
 module _ {M : Type 1} (𝓤 : URA M) (H : Heap 𝓤) (A : Atoms 𝓤) (W : Given 𝓤 H A) (at-mem : Memory → SProp 𝓤) (run : Routine → Fun 𝓤) (κ : Lft) (q : Share) (b o : ℕ) (γ : GName) (h : Device) (a : Frame) (a-is : Is R.the-row a (EL.vals R.the-type R′.the-laws a)) (free : applies a ≡ false) where
   abbrev va : Val
@@ -66,7 +66,7 @@ module _ {M : Type 1} (𝓤 : URA M) (H : Heap 𝓤) (A : Atoms 𝓤) (W : Given
   zeroes : {z : ℤ} → changesZero a ≡ true → z ≡ zeroBy sz a → rezero h z ≡ obeyed h a
   zeroes e p = rw (setup-zeroed (h .setup) a e, state-zeroed (h .state) a e, p)
 
-  begins : {c : Calibration} {s : State} → restartsBy a ≡ true → c ≡ unusedZero (h .setup .figures) → s ≡ started → restate (recopy h c) s ≡ obeyed h a
+  begins : {c : Calibration} {s : State} → restartsBy a ≡ true → c ≡ unusedZero (h .setup .figures) → s ≡ restarted (h .state) → restate (recopy h c) s ≡ obeyed h a
   begins e p r = rw (setup-restarted (h .setup) a e, state-restarted (h .state) a e, p, r)
 
   turns : {s : State} → restartsBy a ≡ false → changesState a ≡ true → s ≡ stateBy (h .state) a → restate h s ≡ obeyed h a
@@ -79,44 +79,46 @@ module _ {M : Type 1} (𝓤 : URA M) (H : Heap 𝓤) (A : Atoms 𝓤) (W : Given
     walk : ent 𝓤 (onEntry 𝓤 H A f.signature (κ, tt) (q, tt) x at) (WpFn 𝓤 H C Λ code.function (vptr b o ∷ va ∷ []) Post)
     walk =
         qed W ((‵ (flft κ q) ⊛ ‵ ftrue) ∷ ‵ (owns (MutRef (named 0) κ D.the-row ∷ R.the-row ∷ []) x at) ∷ []) ∵ enter ! C Λ code.function (vptr b o ∷ va ∷ []) _ $
-        alloc1 ! (λ l₀. alloc1 ! (λ l₁. alloc1 ! {τ = R′.mir} (λ l₂. alloc1 ! (λ l₃. alloc1 ! (λ l₄. alloc1 ! (λ l₅. alloc1 ! (λ l₆. alloc1 ! {τ = F′.mir} (λ l₇. alloc1 ! {τ = F′.mir} (λ l₈. alloc1 ! {τ = S′.mir} (λ l₉. alloc1 ! (λ l₁₀. alloc1 ! {τ = S′.mir} (λ l₁₁. alloc1 ! {τ = S′.mir}
-        (λ l₁₂. alloc1 ! {τ = F′.mir} (λ l₁₃. alloc1 ! {τ = F′.mir} (λ l₁₄. alloc0 ! $ params1 ! $
-        pass1 ! (init ! 26 refl (tt, tt)) $ pass1 ! (init ! 24 refl (EL.lawful R.the-type R′.the-laws 𝓤 H A W tt .typed a _ a-is .0)) $ pass0 ! $
-        move ! (31 ∷ []) $ fsplit ! $ fsplit3 ! $ drop ! $ move ! (2 ∷ []) $ drop ! $ move ! (32 ∷ []) $ split ! $ move ! (2 ∷ 3 ∷ 0 ∷ []) $
+        alloc1 ! (λ l₀. alloc1 ! (λ l₁. alloc1 ! {τ = R′.mir} (λ l₂. alloc1 ! (λ l₃. alloc1 ! (λ l₄. alloc1 ! (λ l₅. alloc1 ! (λ l₆. alloc1 ! {τ = F′.mir} (λ l₇. alloc1 ! {τ = F′.mir} (λ l₈. alloc1 ! {τ = S′.mir} (λ l₉. alloc1 ! {τ = S′.mir} (λ l₁₀. alloc1 ! (λ l₁₁. alloc1 ! {τ = S′.mir} (λ l₁₂. alloc1 ! {τ = S′.mir}
+        (λ l₁₃. alloc1 ! {τ = F′.mir} (λ l₁₄. alloc1 ! {τ = F′.mir} (λ l₁₅. alloc0 ! $ params1 ! $
+        pass1 ! (init ! 28 refl (tt, tt)) $ pass1 ! (init ! 26 refl (EL.lawful R.the-type R′.the-laws 𝓤 H A W tt .typed a _ a-is .0)) $ pass0 ! $
+        move ! (33 ∷ []) $ fsplit ! $ fsplit3 ! $ drop ! $ move ! (2 ∷ []) $ drop ! $ move ! (34 ∷ []) $ split ! $ move ! (2 ∷ 3 ∷ 0 ∷ []) $
         opens-record device ! tt h (λ was.
-        -- [the record's cell; the open borrow; obs; auth; true; _14; …; _1; …; room for _0; …]
-        calls-plain ! fm changes-zero (known-of .0) (tt, tt, tt, (a, tt), (va ∷ [], tt)) tt (id⊢ 𝓤 _) (a-is, tt) (id⊢ 𝓤 _) (λ c. c ≡ changesZero a) (λ c e. id⊢ 𝓤 _) (local ! 34 refl (no-more !)) 27 refl refl (λ vc c zero c-is. first ! $ branches-on ! (look ! 27 refl) c-is zero
-        (λ zero. copies ! 0 refl (sz-in h ! was) (look ! 31 refl) (init ! 23 refl) $
-        calls-plain ! fm zero-by (known-of .1 .0) (tt, tt, tt, (sz, (a, tt)), (number sz ∷ [], (va ∷ [], tt))) tt (id⊢ 𝓤 _) (sz-is h was, (a-is, tt)) (id⊢ 𝓤 _) (λ z. z ≡ zeroBy sz a) (λ z e. id⊢ 𝓤 _) (local ! 34 refl (local ! 34 refl (no-more !))) 25 refl refl (λ vz z is z-is.
-        assigns-to ! t-3 Post (of-opd ! (load ! (from ! (stop !)) (look ! 25 refl))) (from ! (hop ! (look ! 31 refl) (fld ! setup-at (fld ! figures-at (fld ! system-at (fld ! sz-at (stop !))))))) (stores-sz ! 0 h refl was z z-is) $
-        assigns ! (of-opd ! (unit-lit !)) (from ! (stop !)) (init ! 33 refl (tt, tt)) $ closes-record device ! tt (rezero h z) (rezeroed h was z z-is) $
-        returns ! (look ! 32 refl) $ frees-all ! 4 (some _ ∷ some _ ∷ some _ ∷ some _ ∷ some _ ∷ some _ ∷ []) refl $
+        -- [the record's cell; the open borrow; obs; auth; true; _15; …; _1; …; room for _0; …]
+        calls-plain ! fm changes-zero (known-of .0) (tt, tt, tt, (a, tt), (va ∷ [], tt)) tt (id⊢ 𝓤 _) (a-is, tt) (id⊢ 𝓤 _) (λ c. c ≡ changesZero a) (λ c e. id⊢ 𝓤 _) (local ! 36 refl (no-more !)) 29 refl refl (λ vc c zero c-is. first ! $ branches-on ! (look ! 29 refl) c-is zero
+        (λ zero. copies ! 0 refl (sz-in h ! was) (look ! 33 refl) (init ! 25 refl) $
+        calls-plain ! fm zero-by (known-of .1 .0) (tt, tt, tt, (sz, (a, tt)), (number sz ∷ [], (va ∷ [], tt))) tt (id⊢ 𝓤 _) (sz-is h was, (a-is, tt)) (id⊢ 𝓤 _) (λ z. z ≡ zeroBy sz a) (λ z e. id⊢ 𝓤 _) (local ! 36 refl (local ! 36 refl (no-more !))) 27 refl refl (λ vz z is z-is.
+        assigns-to ! t-3 Post (of-opd ! (load ! (from ! (stop !)) (look ! 27 refl))) (from ! (hop ! (look ! 33 refl) (fld ! setup-at (fld ! figures-at (fld ! system-at (fld ! sz-at (stop !))))))) (stores-sz ! 0 h refl was z z-is) $
+        assigns ! (of-opd ! (unit-lit !)) (from ! (stop !)) (init ! 35 refl (tt, tt)) $ closes-record device ! tt (rezero h z) (rezeroed h was z z-is) $
+        returns ! (look ! 34 refl) $ frees-all ! 4 (some _ ∷ some _ ∷ some _ ∷ some _ ∷ some _ ∷ some _ ∷ []) refl $
         keep ! (0 ∷ 1 ∷ 2 ∷ []) $ by ! (exits (rezero h z) (zeroes zero is))))
-        (λ no-zero. calls-plain ! fm restarts (known-of .1 .1 .0) (tt, tt, tt, (a, tt), (va ∷ [], tt)) tt (id⊢ 𝓤 _) (a-is, tt) (id⊢ 𝓤 _) (λ d. d ≡ restartsBy a) (λ d e. id⊢ 𝓤 _) (local ! 34 refl (no-more !)) 21 refl refl (λ vd d rst d-is. branches-on ! (look ! 21 refl) d-is rst
-        (λ rst. copies ! 0 refl (figures-in h ! was) (look ! 31 refl) (init ! 17 refl) $
+        (λ no-zero. calls-plain ! fm restarts (known-of .1 .1 .0) (tt, tt, tt, (a, tt), (va ∷ [], tt)) tt (id⊢ 𝓤 _) (a-is, tt) (id⊢ 𝓤 _) (λ d. d ≡ restartsBy a) (λ d e. id⊢ 𝓤 _) (local ! 36 refl (no-more !)) 23 refl refl (λ vd d rst d-is. branches-on ! (look ! 23 refl) d-is rst
+        (λ rst. copies ! 0 refl (figures-in h ! was) (look ! 33 refl) (init ! 19 refl) $
         calls-plain ! fm unused-zero (known-of .1 .1 .1 .0) (tt, tt, tt, (h .setup .figures, tt), (mach-figures (h .setup .figures) ∷ [], tt)) tt (id⊢ 𝓤 _) (figures-is h was, tt) (id⊢ 𝓤 _) (λ c. c ≡ unusedZero (h .setup .figures)) (λ c e. id⊢ 𝓤 _)
-        (local ! 34 refl (no-more !)) 19 refl refl (λ vu u unused u-is.
-        assigns ! (of-opd ! (load ! (from ! (stop !)) (look ! 19 refl))) (from ! (hop ! (look ! 31 refl) (fld ! setup-at (fld ! copy-at (stop !))))) (stores-copy ! 0 h refl was u u-is) $
-        calls-plain ! fm fresh (known-of .1 .1 .1 .1 .0) (tt, tt, tt, tt, tt) tt (id⊢ 𝓤 _) tt (id⊢ 𝓤 _) (λ s. s ≡ started) (λ s e. id⊢ 𝓤 _) (no-more !) 15 refl refl (λ vs s begun s-is.
-        assigns-to ! t-3 Post (of-opd ! (load ! (from ! (stop !)) (look ! 15 refl))) (from ! (hop ! (look ! 31 refl) (fld ! state-at (stop !)))) (stores-state ! 0 (recopy h u) refl (recopied h was u u-is) s s-is) $
-        assigns ! (of-opd ! (unit-lit !)) (from ! (stop !)) (init ! 33 refl (tt, tt)) $ closes-record device ! tt (restate (recopy h u) s) (restated (recopy h u) (recopied h was u u-is) s s-is) $
-        returns ! (look ! 32 refl) $ frees-all ! 4 (some _ ∷ some _ ∷ some _ ∷ some _ ∷ none ∷ none ∷ some _ ∷ some _ ∷ some _ ∷ some _ ∷ []) refl $
+        (local ! 36 refl (no-more !)) 21 refl refl (λ vu u unused u-is.
+        assigns ! (of-opd ! (load ! (from ! (stop !)) (look ! 21 refl))) (from ! (hop ! (look ! 33 refl) (fld ! setup-at (fld ! copy-at (stop !))))) (stores-copy ! 0 h refl was u u-is) $
+        copies ! 0 refl (state-in (recopy h u) ! (recopied h was u u-is)) (look ! 33 refl) (init ! 15 refl) $
+        calls-plain ! fm restart (known-of .1 .1 .1 .1 .0) (tt, tt, tt, (h .state, tt), (mach-state (h .state) ∷ [], tt)) tt (id⊢ 𝓤 _) (state-is (recopy h u) (recopied h was u u-is), tt) (id⊢ 𝓤 _) (λ s. s ≡ restarted (h .state)) (λ s e. id⊢ 𝓤 _)
+        (local ! 36 refl (no-more !)) 17 refl refl (λ vs s begun s-is.
+        assigns-to ! t-3 Post (of-opd ! (load ! (from ! (stop !)) (look ! 17 refl))) (from ! (hop ! (look ! 33 refl) (fld ! state-at (stop !)))) (stores-state ! 0 (recopy h u) refl (recopied h was u u-is) s s-is) $
+        assigns ! (of-opd ! (unit-lit !)) (from ! (stop !)) (init ! 35 refl (tt, tt)) $ closes-record device ! tt (restate (recopy h u) s) (restated (recopy h u) (recopied h was u u-is) s s-is) $
+        returns ! (look ! 34 refl) $ frees-all ! 4 (some _ ∷ some _ ∷ some _ ∷ some _ ∷ none ∷ none ∷ some _ ∷ some _ ∷ some _ ∷ some _ ∷ some _ ∷ []) refl $
         keep ! (0 ∷ 1 ∷ 2 ∷ []) $ by ! (exits (restate (recopy h u) s) (begins rst unused begun)))))
-        (λ no-rst. calls-plain ! fm changes-state (known-of .1 .1 .1 .1 .1 .0) (tt, tt, tt, (a, tt), (va ∷ [], tt)) tt (id⊢ 𝓤 _) (a-is, tt) (id⊢ 𝓤 _) (λ e. e ≡ changesState a) (λ e g. id⊢ 𝓤 _) (local ! 34 refl (no-more !)) 13 refl refl (λ ve e turn e-is. branches-on ! (look ! 13 refl) e-is turn
-        (λ turn. copies ! 0 refl (state-in h ! was) (look ! 31 refl) (init ! 9 refl) $
+        (λ no-rst. calls-plain ! fm changes-state (known-of .1 .1 .1 .1 .1 .0) (tt, tt, tt, (a, tt), (va ∷ [], tt)) tt (id⊢ 𝓤 _) (a-is, tt) (id⊢ 𝓤 _) (λ e. e ≡ changesState a) (λ e g. id⊢ 𝓤 _) (local ! 36 refl (no-more !)) 13 refl refl (λ ve e turn e-is. branches-on ! (look ! 13 refl) e-is turn
+        (λ turn. copies ! 0 refl (state-in h ! was) (look ! 33 refl) (init ! 9 refl) $
         calls-plain ! fm state-by (known-of .1 .1 .1 .1 .1 .1 .0) (tt, tt, tt, (h .state, (a, tt)), (mach-state (h .state) ∷ [], (va ∷ [], tt))) tt (id⊢ 𝓤 _) (state-is h was, (a-is, tt)) (id⊢ 𝓤 _) (λ s. s ≡ stateBy (h .state) a) (λ s e. id⊢ 𝓤 _)
-        (local ! 34 refl (local ! 34 refl (no-more !))) 11 refl refl (λ vs s turned s-is.
-        assigns-to ! t-3 Post (of-opd ! (load ! (from ! (stop !)) (look ! 11 refl))) (from ! (hop ! (look ! 31 refl) (fld ! state-at (stop !)))) (stores-state ! 0 h refl was s s-is) $
-        assigns ! (of-opd ! (unit-lit !)) (from ! (stop !)) (init ! 33 refl (tt, tt)) $ closes-record device ! tt (restate h s) (restated h was s s-is) $
-        returns ! (look ! 32 refl) $ frees-all ! 4 (some _ ∷ some _ ∷ some _ ∷ some _ ∷ none ∷ none ∷ some _ ∷ none ∷ none ∷ none ∷ some _ ∷ some _ ∷ some _ ∷ []) refl $
+        (local ! 36 refl (local ! 36 refl (no-more !))) 11 refl refl (λ vs s turned s-is.
+        assigns-to ! t-3 Post (of-opd ! (load ! (from ! (stop !)) (look ! 11 refl))) (from ! (hop ! (look ! 33 refl) (fld ! state-at (stop !)))) (stores-state ! 0 h refl was s s-is) $
+        assigns ! (of-opd ! (unit-lit !)) (from ! (stop !)) (init ! 35 refl (tt, tt)) $ closes-record device ! tt (restate h s) (restated h was s s-is) $
+        returns ! (look ! 34 refl) $ frees-all ! 4 (some _ ∷ some _ ∷ some _ ∷ some _ ∷ none ∷ none ∷ some _ ∷ none ∷ none ∷ none ∷ none ∷ some _ ∷ some _ ∷ some _ ∷ []) refl $
         keep ! (0 ∷ 1 ∷ 2 ∷ []) $ by ! (exits (restate h s) (turns no-rst turn turned))))
-        (λ no-turn. copies ! 0 refl (copy-in h ! was) (look ! 31 refl) (init ! 5 refl) $
+        (λ no-turn. copies ! 0 refl (copy-in h ! was) (look ! 33 refl) (init ! 5 refl) $
         calls-plain ! fm copy-by (known-of .1 .1 .1 .1 .1 .1 .1 .0) (tt, tt, tt, (h .setup .copy, (a, tt)), (mach-figures (h .setup .copy) ∷ [], (va ∷ [], tt))) tt (id⊢ 𝓤 _) (copy-is h was, (a-is, tt)) (id⊢ 𝓤 _) (λ c. c ≡ copyBy (h .setup .copy) a) (λ c e. id⊢ 𝓤 _)
-        (local ! 34 refl (local ! 34 refl (no-more !))) 7 refl refl (λ vn n next n-is.
-        assigns-to ! t-3 Post (of-opd ! (load ! (from ! (stop !)) (look ! 7 refl))) (from ! (hop ! (look ! 31 refl) (fld ! setup-at (fld ! copy-at (stop !))))) (stores-copy ! 0 h refl was n n-is) $
-        assigns ! (of-opd ! (unit-lit !)) (from ! (stop !)) (init ! 33 refl (tt, tt)) $ closes-record device ! tt (recopy h n) (recopied h was n n-is) $
-        returns ! (look ! 32 refl) $ frees-all ! 4 (some _ ∷ some _ ∷ some _ ∷ some _ ∷ none ∷ none ∷ some _ ∷ none ∷ none ∷ none ∷ some _ ∷ none ∷ none ∷ some _ ∷ some _ ∷ []) refl $
-        keep ! (0 ∷ 1 ∷ 2 ∷ []) $ by ! (exits (recopy h n) (copied no-zero no-turn next)))))))))))))))))))))))))
+        (local ! 36 refl (local ! 36 refl (no-more !))) 7 refl refl (λ vn n next n-is.
+        assigns-to ! t-3 Post (of-opd ! (load ! (from ! (stop !)) (look ! 7 refl))) (from ! (hop ! (look ! 33 refl) (fld ! setup-at (fld ! copy-at (stop !))))) (stores-copy ! 0 h refl was n n-is) $
+        assigns ! (of-opd ! (unit-lit !)) (from ! (stop !)) (init ! 35 refl (tt, tt)) $ closes-record device ! tt (recopy h n) (recopied h was n n-is) $
+        returns ! (look ! 34 refl) $ frees-all ! 4 (some _ ∷ some _ ∷ some _ ∷ some _ ∷ none ∷ none ∷ some _ ∷ none ∷ none ∷ none ∷ none ∷ some _ ∷ none ∷ none ∷ some _ ∷ some _ ∷ []) refl $
+        keep ! (0 ∷ 1 ∷ 2 ∷ []) $ by ! (exits (recopy h n) (copied no-zero no-turn next))))))))))))))))))))))))))
 
 module _ {M : Type 1} (𝓤 : URA M) (H : Heap 𝓤) (A : Atoms 𝓤) (W : Given 𝓤 H A) (mem : Memory → SProp 𝓤) (run : Routine → Fun 𝓤) where
   walks : (C : Calls 𝓤 H) (Λ : Loops 𝓤 H) → FmC 𝓤 H (W .laws) C → AllKnown 𝓤 H A mem run C callees → Walks 𝓤 H A f.ended stayed (WpFn 𝓤 H C Λ code.function) (f.clauses 𝓤 H A mem run)
@@ -133,5 +135,5 @@ unfolding code.routine
 store-spec 𝓤 H 𝓜 𝓖 𝓡 =
     let W = givenOf 𝓤 H 𝓜 𝓖 in
     walk-entered 𝓤 H 𝓜 𝓖 𝓡 code.env #board·store code.function (code.unfolded 𝓤 H 𝓜 𝓡) callees
-    (code.calls-answers·changes-zero, (code.calls-answers·zero-by, (code.calls-answers·restarts, (code.calls-panel·unused-zero, (code.calls-state·fresh, (code.calls-answers·changes-state, (code.calls-state·state-by, (code.calls-answers·copy-by, tt))))))))
+    (code.calls-answers·changes-zero, (code.calls-answers·zero-by, (code.calls-answers·restarts, (code.calls-panel·unused-zero, (code.calls-state·restart, (code.calls-answers·changes-state, (code.calls-state·state-by, (code.calls-answers·copy-by, tt))))))))
     f.ended (f.clauses 𝓤 H (𝓖 .A) (𝓜 .mem) (𝓡 .run)) stayed (goes 𝓤 H (𝓖 .A) W (𝓜 .mem) (𝓡 .run)) (walks 𝓤 H (𝓖 .A) W (𝓜 .mem) (𝓡 .run))

@@ -10,7 +10,7 @@ unfolding acted
 act-spec =
     tie.close
     (tie.spec (λ c κs. search needs)
-    (λ c. simp (eq-eqb _ _ (c .before .if1 .taken)) (c .fresh .ensures)) (λ c κs. search needs)
+    (λ c. simp (eq-eqb _ _ (c .before .if1 .taken)) (c .restart .ensures)) (λ c κs. search needs)
     (λ c. simp (ne-eqb _ _ (c .before .before .if1 .left), eq-eqb _ _ (c .before .if2 .taken)) (c .snap .ensures)) (λ c κs. search needs)
     (λ c. simp (ne-eqb _ _ (c .before .before .before .if1 .left), ne-eqb _ _ (c .before .before .if2 .left), eq-eqb _ _ (c .before .if3 .taken)) (c .reset-peaks .ensures))
     (λ c. simp (ne-eqb _ _ (c .before .before .if1 .left), ne-eqb _ _ (c .before .if2 .left), ne-eqb _ _ (c .if3 .left))))
