@@ -6,14 +6,14 @@ use native.Mathlib.Nat.{div-add-mod', mul-mod-left}
 use native.Mathlib.Omega.{arith}
 use borrow.Author.Tests.{lt-ltb, eq-eqb, eqb-true}
 use lib.Dec.{eqb, ltb}
-use lib.IntN.{ℤ, pos, natAbs, _*ℤ_}
+use lib.IntN.{ℤ, pos, one, natAbs, _*ℤ_, *ℤ-one}
 use lib.Signed.{leZ}
 use lib.Ieee.{Float, nan, inf, fin, up, down}
 use lib.Ieee.Fits.{down-pos}
 use Rattle.integers.proofs.Magnitude.{abs-mul}
 use Rattle.integers.proofs.Order.{le-yes, yes-le}
-use Rattle.arithmetic.specs.Round.{Nearest}
-use Rattle.arithmetic.proofs.Round.{round-nearest}
+use Rattle.arithmetic.specs.Round.{roundDiv, Nearest}
+use Rattle.arithmetic.proofs.Round.{round-nearest, round-whole}
 use Rattle.binary32.specs.Received.{signed, exact, takes, nearest, counted}
 use Rattle.binary32.specs.Fit.{inCounts, Whole, Fit, FitTaken}
 use Rattle.binary32.specs.declared.received.Range.{Range}
@@ -73,3 +73,15 @@ rounded r (fin s m e) h = rw (taken r (fin s m e) h) (round-nearest (signed s (m
 
 pub fit-taken : FitTaken
 fit-taken = record { taken = λ r x. (fit r x, taken r x); rounded = rounded }
+
+-- a whole number is counted as itself
+pub counted-whole : (r : Range) (x : Float) → takes r x ≡ true → r .shift ≡ 0 → (z : ℤ) → exact x .top ≡ z *ℤ exact x .low → counted r x ≡ z
+unfolding counted nearest one
+counted-whole r nan h e z is = absurd (false≢true (fit r nan h .is-finite))
+counted-whole r (inf s) h e z is = absurd (false≢true (fit r (inf s) h .is-finite))
+counted-whole r (fin s m e) h none z is =
+    let a : ℤ = signed s (m * up e) in
+    rw h (ap (λ (k : ℤ). roundDiv k (pos (down e))) (ap (λ (n : ℕ). a *ℤ pos (2 ^ n)) none ∙ *ℤ-one a ∙ is) ∙ round-whole z (pos (down e)) (above-zero (down-pos e)))
+
+pub whole-counted : (r : Range) (x : Float) → takes r x ≡ true → r .shift ≡ 0 → exact x .top ≡ counted r x *ℤ exact x .low
+whole-counted r x h e = let w = fit r x h .whole e in w .is ∙ ap (λ (z : ℤ). z *ℤ exact x .low) (sym (counted-whole r x h e (w .number) (w .is)))

@@ -18,6 +18,7 @@ pub mod Writes
 mod Snapshot
 mod Shown
 pub mod Agrees
+pub mod Warnings
 pub mod Jumps
 pub mod Pulling
 pub mod Panel

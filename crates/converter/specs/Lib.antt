@@ -9,6 +9,7 @@ pub mod Snapshot
 pub mod Jumps
 pub mod Pulling
 pub mod History
+pub mod Warnings
 pub mod Starred
 pub mod Station
 pub mod SameDevice
