@@ -148,7 +148,8 @@ impl Device {
                 self.copy = self.figures;
                 self.last = None;
                 self.snapshot = None;
-                self.flag = REBOOT;
+                // Change 7: "RST shall now add REBOOT to FLAG and clear nothing".
+                self.flag |= REBOOT;
             }
             Register::Snap => self.snapshot = Some(self.reading()?.sys),
             Register::PeakReset => {

@@ -1,4 +1,4 @@
-//! The load cell converter of paper 01, with Changes 1, 2, 4, 5 and 6 of paper 02, in plain Rust, written from
+//! The load cell converter of paper 01, with Changes 1, 2, 4, 5, 6 and 7 of paper 02, in plain Rust, written from
 //! the papers alone.
 //!
 //! Whole numbers are steps (1/65,536 of a unit) and gains (1/2^28) in `i64`; the widest product,
@@ -13,7 +13,7 @@ pub mod sheet;
 pub mod value;
 
 pub use bus::crc16;
-pub use device::{Device, Reading};
+pub use device::{Device, Reading, REBOOT};
 pub use platform::{weigh, Sample, Weights};
 pub use sheet::{Contents, Figures, Identity};
 

@@ -1,5 +1,6 @@
-//! The edges of paper 01, and the rules of Changes 1, 2, 4, 5 and 6 of paper 02.
+//! The edges of paper 01, and the rules of Changes 1, 2, 4, 5, 6 and 7 of paper 02.
 
+mod flags;
 mod forms;
 mod halves;
 mod platform;
