@@ -1,10 +1,11 @@
 //! Seeded random and adversarial calls. The model's state is looked at only to aim at the edges.
 
+pub mod flags;
 pub mod laboratory;
 mod panel;
 mod platform;
 
-use crate::{read_frame, sealed, write_frame, APPLY, REGISTERS, RST};
+use crate::{read_frame, sealed, write_frame, APPLY, FLAG, REGISTERS, RST};
 use laboratory::{identity, with_identity, Task};
 use model::panel::Figure;
 use model::sheet::{self, most, IN_FRONT, LONGEST_OLD};
@@ -226,13 +227,19 @@ pub enum Call {
     Sheets(Task),
 }
 
+/// A call of a run.
+enum Step {
+    Panel(panel::Write),
+    Flags(flags::Step),
+}
+
 /// Makes one call after another, on four devices.
 pub struct Calls {
     rng: Rng,
     /// The device that calls are made on for a while.
     at: usize,
-    /// A run of writes on its panel, the last one first.
-    run: Vec<panel::Write>,
+    /// A run of calls on it, the last one first.
+    run: Vec<Step>,
 }
 
 impl Calls {
@@ -264,14 +271,22 @@ impl Calls {
 
     fn call(&mut self, d: &Device, quiet: bool) -> Call {
         let rng = &mut self.rng;
-        // Between the writes of a run come other calls.
+        // Between the calls of a run come other ones.
         let next = if rng.one_in(6) { None } else { self.run.pop() };
-        if let Some((register, bits)) = next {
+        if let Some(step) = next {
+            let (register, bits) = match step {
+                Step::Panel(write) => write,
+                Step::Flags(flags::Step::Raise) => return Call::Reading(flags::raising(rng)),
+                Step::Flags(flags::Step::Reset) => (RST, float_bits(rng)),
+                Step::Flags(flags::Step::Clear) => (FLAG, flags::value(rng, d.flag)),
+            };
             let station = if rng.one_in(12) { 0 } else { d.station };
             return Call::Frame(write_frame(station, 2 * register, bits), 9);
         }
         if rng.one_in(200) {
-            self.run = panel::run(rng);
+            self.run = panel::run(rng).into_iter().map(Step::Panel).collect();
+        } else if !quiet && rng.one_in(80) {
+            self.run = flags::run(rng).into_iter().map(Step::Flags).collect();
         }
         match rng.below(if quiet { 60 } else { 100 }) {
             0..=54 => Call::Reading(sample(rng, d)),

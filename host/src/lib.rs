@@ -40,6 +40,8 @@ pub const FILL_SCRATCH: u8 = 0x5c;
 /// The register numbers of paper 01.
 pub const REGISTERS: [u16; 16] = [6, 9, 10, 11, 12, 13, 14, 15, 16, 22, 23, 24, 25, 100, 103, 104];
 
+pub const FLAG: u16 = 14;
+
 pub const RST: u16 = 100;
 
 /// Our own register of Change 1, a write to which puts the waiting copy in force.

@@ -6,6 +6,7 @@
 //! of some of the panel's after each call, and that a refused call keeps the record, one of a platform all four (a
 //! refused making leaves zeros).
 
+use host::generate::flags;
 use host::generate::laboratory::{Reached, Task};
 use host::generate::{Call, Calls};
 use host::mirror::{self, Mirrored};
@@ -218,6 +219,7 @@ struct Seen {
     several: u64,
     /// Makings of a first count of 4, of 2, and of another or none: accepted, and refused.
     made: [[u64; 2]; 3],
+    resets: flags::Reached,
     sheets: Reached,
 }
 
@@ -241,9 +243,14 @@ impl Seen {
             Call::Make(sheet, _) => {
                 let form = [OLD, NEW].iter().position(|count| sheet.first() == Some(count)).unwrap_or(2);
                 self.made[form][usize::from(number != 0)] += 1;
+                if number == 0 {
+                    self.resets.make(at);
+                }
             }
-            Call::Frame(frame, _) if number == 0 => {
-                self.applied += u64::from(frame[1] == 16 && frame[2..4] == (2 * APPLY).to_be_bytes());
+            Call::Frame(frame, _) if number == 0 && frame[1] == 16 => {
+                let register = u16::from_be_bytes([frame[2], frame[3]]) / 2;
+                self.applied += u64::from(register == APPLY);
+                self.resets.write(at, register, &before[at], &after[at]);
             }
             _ => {}
         }
@@ -291,6 +298,7 @@ impl Seen {
         println!("filter on: {} readings smoothed, {behind} of them far from the held value", smooth + behind);
         println!("           {} jumped, {back} of them to near the held value", jumps + back);
         println!("FLAG bits seen {}; longest run of readings without start or RST {}", self.flags, self.longest);
+        println!("{}", self.resets);
         let [one, two, three, four] = self.spoiled;
         println!("four corners: {} calls accepted, {} refused with 18", self.weighed, self.numbers[CORNER_REFUSED]);
         println!("              for corner 1 alone {one}, 2 {two}, 3 {three}, 4 {four}; for several {}", self.several);
