@@ -1,7 +1,7 @@
 /* Make a device of the default sheet, take readings, and answer frames: what a board does all day; then load bad sheets
  * while it runs, which disturbs nothing; then calibrate it from the panel; then fill it slowly with the filter on; then
- * weigh a lorry on a platform of four; then push and pull a cell. In one report the four values differ, and in one
- * weighing all eight, so that a header with their order changed does not pass. */
+ * weigh a lorry on a platform of four; then push and pull a cell; then overload it and send RST. In one report the four
+ * values differ, and in one weighing all eight, so that a header with their order changed does not pass. */
 #include "converter.h"
 #include <inttypes.h>
 #include <stdio.h>
@@ -217,6 +217,35 @@ static void push_and_pull(converter_device *device)
     }
 }
 
+static void print_flag(const char *what, converter_device *device)
+{
+    uint8_t reply[9];
+    read_register(device, CONVERTER_REGISTER_FLAG, reply, sizeof reply);
+    uint32_t bits = (uint32_t)reply[5] << 24 | (uint32_t)reply[6] << 16 | (uint32_t)reply[3] << 8 | reply[4];
+    float value;
+    memcpy(&value, &bits, sizeof value);
+    unsigned flag = (unsigned)value;
+    printf("%s: FLAG %u%s%s%s\n", what, flag, flag & CONVERTER_FLAG_ECOMOR ? " ECOMOR" : "",
+           flag & CONVERTER_FLAG_CRAWOR ? " CRAWOR" : "", flag & CONVERTER_FLAG_REBOOT ? " REBOOT" : "");
+}
+
+/* Change 7 of paper 02. The default sheet; REBOOT of the start was seen and is cleared. The cell is overloaded, 155 %,
+ * and a site engineer sends RST before looking: PEAK begins anew at 50 %, and FLAG still tells of the overload. A write
+ * that lacks its bits clears them. */
+static void reset_after_overload(converter_device *device)
+{
+    uint8_t reply[16];
+    write_register(device, CONVERTER_REGISTER_FLAG, 0.0f, reply, sizeof reply);
+    converter_reading(device, 155 * 65536, 1310720, 0);
+    print_flag("overloaded", device);
+    print_reply("write RST", write_register(device, CONVERTER_REGISTER_RST, 0.0f, reply, sizeof reply), reply);
+    converter_reading(device, 50 * 65536, 1310720, 0);
+    print_report(converter_report(device));
+    print_flag("after RST", device);
+    print_reply("write FLAG", write_register(device, CONVERTER_REGISTER_FLAG, 32768.0f, reply, sizeof reply), reply);
+    print_flag("after the write", device);
+}
+
 int main(void)
 {
     static converter_device device;
@@ -270,5 +299,10 @@ int main(void)
     put_figure(sheet, 9, 268435456 / 2);
     printf("good sheet: %u\n", load(&device, sheet, length, 52));
     push_and_pull(&device);
+
+    /* CGAI 1. */
+    put_figure(sheet, 9, 268435456);
+    printf("good sheet: %u\n", load(&device, sheet, length, 52));
+    reset_after_overload(&device);
     return 0;
 }

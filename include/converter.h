@@ -1,6 +1,7 @@
 /* The converter of a load cell: readings, calibration sheet and Modbus RTU (paper 01), with calibration over the bus,
  * a filter level between samples, the four corners of a platform, halves of a step rounded away from zero, so that a
- * cell is pulled as it is pushed, and sheets with an identity (paper 02, Changes 1, 2, 4, 5 and 6), proved in Rattle.
+ * cell is pulled as it is pushed, sheets with an identity, and flags that outlive RST (paper 02, Changes 1, 2, 4, 5, 6
+ * and 7), proved in Rattle.
  *
  * Link the archive libboard.a (`rt staticlib board`, x86-64) for devices, and liblaboratory.a (`rt staticlib
  * laboratory`) for the calls on sheets, which firmware need not carry; either one alone, or both. There is no heap and
@@ -43,7 +44,7 @@ extern "C" {
 
 /* Another MAJOR: code that was compiled with the older header must not be linked with this archive. */
 #define CONVERTER_VERSION_MAJOR 3
-#define CONVERTER_VERSION_MINOR 3
+#define CONVERTER_VERSION_MINOR 4
 #define CONVERTER_VERSION_PATCH 0
 
 /* Numbers of refusal; 0 is an accepted call. */
@@ -124,7 +125,8 @@ enum {
     CONVERTER_REGISTER_CTO = 2 * 121         /* 5 points; takes a write */
 };
 
-/* Bits of STAT and FLAG. */
+/* Bits of STAT and FLAG. STAT is of the last reading. FLAG keeps a bit until a write to FLAG lacks it: RST adds REBOOT
+ * and clears none. A start, by converter_make, has REBOOT alone. */
 enum {
     CONVERTER_FLAG_TEMPUR = 4,     /* TEMP below -50 degrees */
     CONVERTER_FLAG_TEMPOR = 8,     /* TEMP above 90 degrees */
@@ -144,7 +146,7 @@ enum {
  * The figures stand twice: readings go by `figures`, those in force; a write to a figure's register goes to `copy`,
  * the waiting copy, and a read of that register shows it. A write to APPLY puts the copy in force from the next
  * reading, or is refused with 17; it leaves SZ, the copy and `state` as they are. RST sets the copy back to the figures
- * in force.
+ * in force, forgets readings and snapshot, so that PEAK and TROF begin anew, and keeps every bit of `flag`.
  *
  * Of the last reading, `input` is ELEC as it was handed in, with which the next one is compared by FFLV, and `elec` is
  * the filter's held value. A start and RST forget both; a refused reading and all other writes leave them. */
