@@ -18,7 +18,9 @@ use std::time::Duration;
 const BAUD: u32 = 600;
 const STATION: u8 = 52;
 const SYS: u16 = 20;
+const FLAG: u16 = 28;
 const SZ: u16 = 44;
+const PEAK: u16 = 48;
 const CGAI: u16 = 80;
 const CMIN: u16 = 88;
 /// Our own register 99.
@@ -228,6 +230,31 @@ fn calibration_from_the_panel() {
     assert_eq!(bus.exchange(&write_frame(STATION, RST, 0)), written(RST));
     assert_eq!(bus.exchange(&read_frame(STATION, CMIN)), value([0xc3, 0x16]));
     assert_eq!(bus.exchange(&write_frame(STATION, APPLY, 0)), written(APPLY));
+}
+
+/// 155 % raises ECOMOR and CRAWOR, 160; FLAG has them past RST, addressed and broadcast, until a write lacks them.
+#[test]
+fn flags_outlive_rst() {
+    let mut bus = Bus::start();
+    let written = |address: u16| sealed(vec![STATION, 16, 0, address as u8, 0, 2]);
+    let flag = |flag: f32| value(flag.to_bits().to_be_bytes()[..2].try_into().expect("two bytes"));
+    assert_eq!(bus.exchange(&read_frame(STATION, FLAG)), flag(32_768.0));
+    assert_eq!(bus.exchange(&write_frame(STATION, FLAG, 0)), written(FLAG));
+    bus.hand_in("10158080 1310720 0");
+    assert_eq!(bus.exchange(&read_frame(STATION, FLAG)), flag(160.0));
+    assert_eq!(bus.exchange(&write_frame(STATION, RST, 0)), written(RST));
+    assert_eq!(bus.exchange(&write_frame(0, RST, 0)), []);
+    let both = [0x34, 3, 4, 0xa0, 0x00, 0x47, 0x00];
+    assert_eq!(bus.exchange(&read_frame(STATION, FLAG)), sealed(both.to_vec()));
+    assert_eq!(bus.exchange(&read_frame(STATION, PEAK)), ADDRESS);
+    bus.hand_in(READING);
+    assert_eq!(bus.exchange(&read_frame(STATION, PEAK)), HUNDRED);
+    // CRAWOR alone is lacked, then the rest.
+    assert_eq!(bus.exchange(&write_frame(STATION, FLAG, 32_f32.to_bits())), written(FLAG));
+    assert_eq!(bus.exchange(&read_frame(STATION, FLAG)), flag(32.0));
+    assert_eq!(bus.exchange(&write_frame(STATION, FLAG, 0)), written(FLAG));
+    assert_eq!(bus.exchange(&write_frame(STATION, RST, 0)), written(RST));
+    assert_eq!(bus.exchange(&read_frame(STATION, FLAG)), flag(32_768.0));
 }
 
 #[test]
