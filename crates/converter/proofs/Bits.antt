@@ -1,7 +1,8 @@
 -- One bit of an "and", of a power of 2, and of any number. (`bit-or` and `zero-bit` are with STAT.) Assumes nothing.
 use mathlib.Core.Path.{_≡_, refl, ap}
 use mathlib.Core.Bool.{Bool, true, false}
-use Prim.Native.Nat.{ℕ, suc, _+_, _-_, _/_, _%_, _^_, _<_, min}
+use mathlib.Core.Logic.{_⊎_, inl, inr}
+use Prim.Native.Nat.{ℕ, zero, suc, _+_, _-_, _/_, _%_, _^_, _<_, min}
 use native.Mathlib.Nat.{mul-mod-left, div-eq-of-lt}
 use native.Mathlib.Numerals.{unary-clauses}
 use native.Mathlib.Omega.{arith}
@@ -9,7 +10,7 @@ use borrow.Author.Tests.{ltb-true, ltb-false}
 use lib.Bits.{bitAnd, and-shr, and-step}
 use lib.Dec.{ltb}
 use lib.Pow.{pow-add, pow-lt, shl-shr}
-use Rattle.compensation.specs.Stat.{bitAt}
+use Rattle.compensation.specs.Stat.{bitAt, Raised}
 
 low-and : (x y : ℕ) → bitAnd x y % 2 ≡ min (x % 2) (y % 2)
 low-and x y = rw (and-step x y) (omega arith)
@@ -23,7 +24,7 @@ unfolding bitAt
 bit-small b n = omega arith
 
 -- 2^k has bit k and no other
-pub bit-power : (b k : ℕ) → bitAt b (2 ^ k) ≡ 1 → b ≡ k
+pub bit-power : (b k : ℕ) → Raised b (2 ^ k) → b ≡ k
 unfolding bitAt
 bit-power b k h = by (ltb b k) (ltb k b) refl refl
   where
@@ -37,3 +38,10 @@ bit-power b k h = by (ltb b k) (ltb k b) refl refl
     by true q e g = absurd (omega (arith, h, below (k - b - 1) (omega (arith, ltb-true b k e))))
     by false true e g = absurd (omega (arith, h, ap (λ (n : ℕ). n % 2) (div-eq-of-lt (pow-lt (ltb-true k b g)))))
     by false false e g = omega (arith, ltb-false b k e, ltb-false k b g)
+
+pub raised-or-not : (b n : ℕ) → Raised b n ⊎ (Raised b n → ⊥)
+raised-or-not b n = by (bitAt b n) refl
+  where
+    by : (k : ℕ) → bitAt b n ≡ k → Raised b n ⊎ (Raised b n → ⊥)
+    by zero e = inr (λ r. omega (arith, e, r))
+    by (suc k) e = inl (omega (arith, e, bit-small b n))

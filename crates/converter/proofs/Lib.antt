@@ -18,6 +18,7 @@ pub mod Writes
 mod Snapshot
 mod Shown
 pub mod Agrees
+mod AcceptedWrites
 pub mod Warnings
 pub mod Jumps
 pub mod Pulling

@@ -27,6 +27,10 @@ reached-step r c = record {
   is = ap (λ (d : Device). afterCall d c) (r .is) ∙ sym (run-more _ (r .calls) c);
 }
 
+pub reached-run : {d : Device} → Reached d → (calls : List Call) → Reached (run d calls)
+reached-run h [] = h
+reached-run h (c ∷ calls) = reached-run (reached-step h c) calls
+
 abbrev pub log-of : {d : Device} → Reached d → Log
 log-of r = logOf (r .sheet) (r .station) (r .calls)
 

@@ -1,9 +1,9 @@
 -- Change 7: every bit of FLAG by the calls and their bytes, and so past all resets. Assumes nothing.
-use mathlib.Core.Path.{_≡_, refl, sym, ap, ap₂, _∙_, subst}
+use mathlib.Core.Path.{_≡_, refl, sym, ap, _∙_, subst}
 use mathlib.Core.Bool.{Bool, true, false, cond, false≢true, true≢false}
 use mathlib.Core.List.{List, [], _∷_}
-use mathlib.Core.Logic.{_↔_}
-use Prim.Native.Nat.{ℕ, zero, suc, _*_}
+use mathlib.Core.Logic.{_↔_, ⊎-elim}
+use Prim.Native.Nat.{ℕ, _*_}
 use native.Mathlib.Omega.{arith}
 use lib.Bits.{bitOr, bitAnd}
 use lib.Dec.{eqb}
@@ -15,20 +15,15 @@ use Rattle.integers.proofs.Order.{pick}
 use Rattle.compensation.specs.Stat.{bitAt, Raised}
 use Rattle.compensation.specs.Filter.{filtered}
 use Rattle.compensation.proofs.Flags.{bit-or}
-use Rattle.binary32.specs.Received.{exact, takes, counted}
+use Rattle.binary32.specs.Received.{exact, counted}
 use Rattle.binary32.specs.Sent.{wholeFloat}
 use Rattle.binary32.proofs.Counted.{counted-up}
 use Rattle.binary32.proofs.Fit.{counted-whole, whole-counted}
 use Rattle.register.specs.Number.{FLAG, RST, SNAP, PEAKRESET}
-use Rattle.register.specs.Register.{accessOf, rangeIn, rangeOf}
-use Rattle.register.specs.declared.Access.{Access}
-use Rattle.register.specs.declared.Access.the-variants.{Unlisted, ReadOnly, Takes, Action}
-use Rattle.modbus.specs.Frame.{wordAt, functionOf, valueOf, judged}
-use Rattle.modbus.specs.Order.{Verdict, noRoom, notForUs, noFunction, notFormed, noAddress, onlyRead, unfit, reads, writes, acts}
+use Rattle.register.specs.Register.{accessOf, rangeOf}
+use Rattle.modbus.specs.Frame.{valueOf}
 use Rattle.modbus.specs.declared.frame.Frame.{Frame}
 use Rattle.modbus.specs.declared.frame.Frame.the-variants.{Refused, Read, Write, Act}
-use Rattle.modbus.proofs.Order.{order-holds}
-use Rattle.answers.specs.Register.{answerOf, numberOf}
 use Rattle.state.specs.Reading.{badReading, peakAfter, trofAfter, readingsAfter, stateAfterReading, stateAfterValues}
 use Rattle.state.specs.Request.{reboot, flagWhole, fresh, restarted, snapped, peaksReset, acted, flagged, stateBy}
 use Rattle.state.specs.declared.State.{State}
@@ -36,20 +31,22 @@ use Rattle.converter.specs.declared.Device.{Device}
 use Rattle.converter.specs.declared.corner.Sample.{Sample}
 use Rattle.converter.specs.Making.{made}
 use Rattle.converter.specs.Corner.{at, cornerRefused}
-use Rattle.converter.specs.Call.{Call, reading, frame, report, corner, afterReading, afterCall, answerToBytes, run, number}
+use Rattle.converter.specs.Call.{Call, reading, frame, report, corner, afterReading, afterCall, run, number}
 use Rattle.converter.specs.Reached.{Reached}
 use Rattle.converter.specs.Wire.{Sends}
-use Rattle.converter.specs.Warnings.{Writes, Raises, Lacks, Clears, BitBy, Uncleared, Warns, First, Anew, Outlives}
-use Rattle.converter.proofs.Bits.{bit-and, bit-power, bit-small}
+use Rattle.converter.specs.Warnings.{AcceptedWrite, Raises, Lacks, Clears, BitBy, Uncleared, Warns, First, Anew, Outlives}
+use Rattle.answers.specs.Parts.{restarts}
+use Rattle.converter.proofs.AcceptedWrites.{asked, flag-asked, reset-asked, asked-flag, asked-reset}
+use Rattle.converter.proofs.Bits.{bit-and, bit-power, bit-small, raised-or-not}
 use Rattle.converter.proofs.History.{peaks-flag, snap-leaves}
 use Rattle.converter.proofs.Made.{making-accepted}
 use Rattle.converter.proofs.Station.{reached-station}
-use Rattle.converter.proofs.Reached.{reached-made, reached-step, reached-sound}
+use Rattle.converter.proofs.Reached.{reached-made, reached-step, reached-run, reached-sound}
 use Rattle.converter.proofs.Corollaries.{rst-restarts, rst-shown}
 use Rattle.converter.proofs.Shown.{none-shown}
 use Rattle.converter.proofs.Agrees.{reached-agrees}
 
--- ---- a frame by its bytes, and by what it is judged to ask
+-- ---- one call, bit by bit
 
 abbrev isFlag : Frame → Bool
 isFlag (Refused n) = false
@@ -57,99 +54,25 @@ isFlag (Read r) = false
 isFlag (Write r x) = eqb r FLAG
 isFlag (Act r) = false
 
-abbrev isReset : Frame → Bool
-isReset (Refused n) = false
-isReset (Read r) = false
-isReset (Write r x) = false
-isReset (Act r) = eqb r RST
-
-abbrev acting : Access → Bool
-acting Unlisted = false
-acting ReadOnly = false
-acting (Takes r) = false
-acting Action = true
-
-module _ (d : Device) (s : List ℕ) (room : ℕ) where
-  abbrev asked : Frame
-  asked = judged s room (d .setup .station)
-
-  abbrev Told : Frame → Type 0
-  Told (Refused n) = n ≡ 0 → ⊥
-  Told (Read r) = functionOf s ≡ 3
-  Told (Write r x) = (functionOf s ≡ 16) × (wordAt s 2 ≡ 2 * r) × (acting (accessOf r) ≡ false) × (valueOf s ≡ x) × (takes (rangeOf r) x ≡ true)
-  Told (Act r) = (functionOf s ≡ 16) × (wordAt s 2 ≡ 2 * r) × (acting (accessOf r) ≡ true)
-
-  told : Told asked
-  unfolding rangeOf
-  told = by (order-holds .judges s room (d .setup .station) asked .0 refl)
-    where
-      by : {f : Frame} → Verdict s room (d .setup .station) f → Told f
-      by (noRoom h) = λ e. omega (arith, e)
-      by (notForUs h k) = λ e. omega (arith, e)
-      by (noFunction h k l) = λ e. omega (arith, e)
-      by (notFormed h k l) = λ e. omega (arith, e)
-      by (noAddress h k l m) = λ e. omega (arith, e)
-      by (onlyRead m h k l a i) = λ e. omega (arith, e)
-      by (unfit m r h k l a i t) = λ e. omega (arith, e)
-      by (reads m h k l a) = k
-      by (writes m r h k l a i t) = (k, a .twice, ap acting i, refl, ap (λ (j : Access). takes (rangeIn j) (valueOf s)) i ∙ t)
-      by (acts m h k l a i) = (k, a .twice, ap acting i)
-
-  same : (m n : ℕ) → wordAt s 2 ≡ 2 * m → wordAt s 2 ≡ 2 * n → m ≡ n
-  same m n e g = omega (arith, e, g)
-
-  flag-asked : Writes 14 d s room → asked ≡ Write FLAG (valueOf s)
-  unfolding answerToBytes answerOf accessOf
-  flag-asked w = by asked told (w .accepted)
-    where
-      by : (f : Frame) → Told f → numberOf (answerOf (d .state) (d .setup) f) ≡ 0 → f ≡ Write FLAG (valueOf s)
-      by (Refused n) t e = absurd (t e)
-      by (Read r) t e = absurd (omega (arith, t, w .function))
-      by (Write r x) t e = ap₂ Write (same r 14 (t .1) (w .address)) (sym (t .3))
-      by (Act r) t e = absurd (false≢true (subst (λ (n : ℕ). acting (accessOf n) ≡ true) (same r 14 (t .1) (w .address)) (t .2)))
-
-  reset-asked : Writes 100 d s room → asked ≡ Act RST
-  unfolding answerToBytes answerOf accessOf
-  reset-asked w = by asked told (w .accepted)
-    where
-      by : (f : Frame) → Told f → numberOf (answerOf (d .state) (d .setup) f) ≡ 0 → f ≡ Act RST
-      by (Refused n) t e = absurd (t e)
-      by (Read r) t e = absurd (omega (arith, t, w .function))
-      by (Write r x) t e = absurd (false≢true (sym (subst (λ (n : ℕ). acting (accessOf n) ≡ false) (same r 100 (t .1) (w .address)) (t .2))))
-      by (Act r) t e = ap Act (same r 100 (t .1) (w .address))
-
-  -- and back
-  asked-flag : (x : Float) → asked ≡ Write FLAG x → Writes 14 d s room × (valueOf s ≡ x) × (takes (rangeOf FLAG) x ≡ true)
-  unfolding answerToBytes answerOf
-  asked-flag x e =
-      let t = subst Told e told in
-      (record { accepted = rw e refl; function = t .0; address = t .1 }, t .3, t .4)
-
-  asked-reset : asked ≡ Act RST → Writes 100 d s room
-  unfolding answerToBytes answerOf
-  asked-reset e = let t = subst Told e told in record { accepted = rw e refl; function = t .0; address = t .1 }
-
--- ---- one call, bit by bit
-
 acted-flag : (s : State) (r : ℕ) → eqb r RST ≡ false → acted s r .flag ≡ s .flag
 unfolding acted
 acted-flag s r e = rw e (pick (eqb r SNAP) (snapped s) _ (λ (t : State). t .flag ≡ s .flag) (λ g. snap-leaves s .1) (λ g. pick (eqb r PEAKRESET) (peaksReset s) s (λ (t : State). t .flag ≡ s .flag) (λ h. peaks-flag s) (λ h. refl)))
 
 module _ (b : ℕ) where
   -- FLAG was f and is g: P raises the bit, Q clears it
-  abbrev Follows : Type 0 → Type 0 → ℕ → ℕ → Type 0
-  Follows P Q f g = ((Raised b f → ⊥) → Raised b g ↔ P) × (Raised b f → (Raised b g → ⊥) ↔ Q)
+  abbrev Turns : Type 0 → Type 0 → ℕ → ℕ → Type 0
+  Turns P Q f g = ((Raised b f → ⊥) → Raised b g ↔ P) × (Raised b f → (Raised b g → ⊥) ↔ Q)
 
-  stays : {P Q : Type 0} (f : ℕ) → (P → ⊥) → (Q → ⊥) → Follows P Q f f
+  stays : {P Q : Type 0} (f : ℕ) → (P → ⊥) → (Q → ⊥) → Turns P Q f f
   stays f p q = (λ un. ((λ t. absurd (un t)), λ k. absurd (p k)), λ t. ((λ un. absurd (un t)), λ k. absurd (q k)))
 
-  adds : {P Q : Type 0} (f m : ℕ) → (Raised b m → P) → (P → Raised b m) → (Q → ⊥) → Follows P Q f (bitOr f m)
+  adds : {P Q : Type 0} (f m : ℕ) → (Raised b m → P) → (P → Raised b m) → (Q → ⊥) → Turns P Q f (bitOr f m)
   adds f m to from q = (
     λ un. ((λ t. to (omega (arith, bit-or b f m, bit-small b f, bit-small b m, t, un))), λ k. omega (arith, bit-or b f m, bit-small b f, from k)),
     λ t. ((λ un. absurd (un (omega (arith, bit-or b f m, bit-small b m, t)))), λ k. absurd (q k)),
   )
 
-  keeps : {P Q : Type 0} (f m : ℕ) → (P → ⊥) → ((Raised b m → ⊥) → Q) → (Q → Raised b m → ⊥) → Follows P Q f (bitAnd f m)
+  keeps : {P Q : Type 0} (f m : ℕ) → (P → ⊥) → ((Raised b m → ⊥) → Q) → (Q → Raised b m → ⊥) → Turns P Q f (bitAnd f m)
   keeps f m p to from = (
     λ un. ((λ t. absurd (un (omega (arith, bit-and b f m, bit-small b f, bit-small b m, t)))), λ k. absurd (p k)),
     λ t. ((λ un. to (λ u. un (omega (arith, bit-and b f m, t, u)))), λ k v. from k (omega (arith, bit-and b f m, bit-small b m, v))),
@@ -158,15 +81,15 @@ module _ (b : ℕ) where
   -- a reading, or none
   sampled : (d : Device) (n : ℕ) → (n ≡ 0 → ⊥) → (refused : Bool) (elec temp : ℤ) (integrity : ℕ)
       → let after : Device = cond refused d (afterReading d elec temp integrity) in
-      Follows ((cond refused n 0 ≡ 0) × Raised b (after .state .readings .values .stat)) ⊥ (d .state .flag) (after .state .flag)
+      Turns ((cond refused n 0 ≡ 0) × Raised b (after .state .readings .values .stat)) ⊥ (d .state .flag) (after .state .flag)
   unfolding stateAfterReading stateAfterValues readingsAfter
   sampled d n some true elec temp integrity = stays (d .state .flag) (λ k. some (k .0)) (λ k. k)
   sampled d n some false elec temp integrity = adds (d .state .flag) _ (λ t. (refl, t)) (λ k. k .1) (λ k. k)
 
   -- a frame
   module _ (d : Device) (s : List ℕ) (room : ℕ) where
-    abbrev FollowsBy : Frame → Type 0
-    FollowsBy f = Follows (Writes 100 d s room × (b ≡ 15)) (Lacks b d s room) (d .state .flag) (stateBy (d .state) f .flag)
+    abbrev TurnsBy : Frame → Type 0
+    TurnsBy f = Turns (AcceptedWrite 100 d s room × (b ≡ 15)) (Lacks b d s room) (d .state .flag) (stateBy (d .state) f .flag)
 
     -- FLAG's write and RST are two frames
     not-both : (x : Float) → asked d s room ≡ Write FLAG x → asked d s room ≡ Act RST → ⊥
@@ -191,43 +114,44 @@ module _ (b : ℕ) where
         above (pos n) h = refl
         above (negsuc n) h = absurd (h .le)
 
-    written : (x : Float) → asked d s room ≡ Write FLAG x → FollowsBy (Write FLAG x)
+    written : (x : Float) → asked d s room ≡ Write FLAG x → TurnsBy (Write FLAG x)
     unfolding stateBy flagged
     written x e =
         keeps (d .state .flag) (flagWhole x) (λ k. not-both x e (reset-asked d s room (k .0)))
         (lacking x e)
         (λ k t. k .without (subst (Raised b) (ap flagWhole (sym (asked-flag d s room x e .1)) ∙ whole-is k) t))
 
-    reset : asked d s room ≡ Act RST → FollowsBy (Act RST)
+    reset : asked d s room ≡ Act RST → TurnsBy (Act RST)
     unfolding stateBy acted restarted bitAt
     reset e =
         adds (d .state .flag) reboot (λ t. (asked-reset d s room e, bit-power b 15 t)) (λ k. subst (λ (n : ℕ). Raised n reboot) (sym (k .1)) refl)
         (λ k. not-both (valueOf s) (flag-asked d s room (k .write)) e)
 
     -- any other leaves FLAG
-    other : (f : Frame) → asked d s room ≡ f → isFlag f ≡ false → isReset f ≡ false → stateBy (d .state) f .flag ≡ d .state .flag → FollowsBy f
+    other : (f : Frame) → asked d s room ≡ f → isFlag f ≡ false → restarts f ≡ false → stateBy (d .state) f .flag ≡ d .state .flag → TurnsBy f
+    unfolding restarts
     other f e no-flag no-reset same =
-        subst (Follows (Writes 100 d s room × (b ≡ 15)) (Lacks b d s room) (d .state .flag)) (sym same)
-        (stays (d .state .flag) (λ k. false≢true (sym no-reset ∙ ap isReset (sym e ∙ reset-asked d s room (k .0)))) (λ k. false≢true (sym no-flag ∙ ap isFlag (sym e ∙ flag-asked d s room (k .write)))))
+        subst (Turns (AcceptedWrite 100 d s room × (b ≡ 15)) (Lacks b d s room) (d .state .flag)) (sym same)
+        (stays (d .state .flag) (λ k. false≢true (sym no-reset ∙ ap restarts (sym e ∙ reset-asked d s room (k .0)))) (λ k. false≢true (sym no-flag ∙ ap isFlag (sym e ∙ flag-asked d s room (k .write)))))
 
-    framed : (f : Frame) → asked d s room ≡ f → FollowsBy f
-    unfolding stateBy flagged
-    framed (Refused n) e = other (Refused n) e refl refl refl
-    framed (Read r) e = other (Read r) e refl refl refl
-    framed (Write r x) e = by (eqb r FLAG) refl
+    by-frame : (f : Frame) → asked d s room ≡ f → TurnsBy f
+    unfolding restarts stateBy flagged
+    by-frame (Refused n) e = other (Refused n) e refl refl refl
+    by-frame (Read r) e = other (Read r) e refl refl refl
+    by-frame (Write r x) e = by (eqb r FLAG) refl
       where
-        by : (p : Bool) → eqb r FLAG ≡ p → FollowsBy (Write r x)
-        by true g = subst (λ (n : ℕ). asked d s room ≡ Write n x → FollowsBy (Write n x)) (sym (eqb-true r FLAG g)) (written x) e
+        by : (p : Bool) → eqb r FLAG ≡ p → TurnsBy (Write r x)
+        by true g = subst (λ (n : ℕ). asked d s room ≡ Write n x → TurnsBy (Write n x)) (sym (eqb-true r FLAG g)) (written x) e
         by false g = other (Write r x) e g refl (rw g refl)
-    framed (Act r) e = by (eqb r RST) refl
+    by-frame (Act r) e = by (eqb r RST) refl
       where
-        by : (p : Bool) → eqb r RST ≡ p → FollowsBy (Act r)
-        by true g = subst (λ (n : ℕ). asked d s room ≡ Act n → FollowsBy (Act n)) (sym (eqb-true r RST g)) reset e
+        by : (p : Bool) → eqb r RST ≡ p → TurnsBy (Act r)
+        by true g = subst (λ (n : ℕ). asked d s room ≡ Act n → TurnsBy (Act n)) (sym (eqb-true r RST g)) reset e
         by false g = other (Act r) e refl g (acted-flag (d .state) r g)
 
 bit-by : (d : Device) (c : Call) (b : ℕ) → BitBy d c b
 bit-by d (reading elec temp integrity) b = let f = sampled b d 9 (λ e. omega (arith, e)) (badReading elec temp integrity) elec temp integrity in record { raised = f .0; cleared = f .1 }
-bit-by d (frame bytes room) b = let f = framed b d bytes room (asked d bytes room) refl in record { raised = f .0; cleared = f .1 }
+bit-by d (frame bytes room) b = let f = by-frame b d bytes room (asked d bytes room) refl in record { raised = f .0; cleared = f .1 }
 bit-by d report b = let f = stays b (d .state .flag) (λ k. k) (λ k. k) in record { raised = f .0; cleared = f .1 }
 bit-by d (corner own samples) b =
     let x : Sample = at samples own in
@@ -248,26 +172,14 @@ module _ (b : ℕ) (d : Device) (c : Call) where
       by (corner own samples) k l = l
 
   stays-raised : (Clears b d c → ⊥) → Raised b (d .state .flag) → Raised b (afterCall d c .state .flag)
-  stays-raised un t = by (bitAt b (afterCall d c .state .flag)) refl
-    where
-      by : (n : ℕ) → bitAt b (afterCall d c .state .flag) ≡ n → Raised b (afterCall d c .state .flag)
-      by zero e = absurd (un (bit-by d c b .cleared t .0 (λ r. omega (arith, e, r))))
-      by (suc n) e = omega (arith, e, bit-small b (afterCall d c .state .flag))
+  stays-raised un t = ⊎-elim (λ r. r) (λ not. absurd (un (bit-by d c b .cleared t .0 not))) (raised-or-not b (afterCall d c .state .flag))
 
   is-raised : Raises b d c → Raised b (afterCall d c .state .flag)
-  is-raised k = by (bitAt b (d .state .flag)) refl
-    where
-      by : (n : ℕ) → bitAt b (d .state .flag) ≡ n → Raised b (afterCall d c .state .flag)
-      by zero e = bit-by d c b .raised (λ r. omega (arith, e, r)) .1 k
-      by (suc n) e = stays-raised (raises-not-clears k) (omega (arith, e, bit-small b (d .state .flag)))
+  is-raised k = ⊎-elim (stays-raised (raises-not-clears k)) (λ not. bit-by d c b .raised not .1 k) (raised-or-not b (d .state .flag))
 
 outlives : (b : ℕ) (d : Device) → Raised b (d .state .flag) → (calls : List Call) → Uncleared b d calls → Raised b (run d calls .state .flag)
 outlives b d t [] u = t
 outlives b d t (c ∷ calls) u = outlives b (afterCall d c) (stays-raised b d c (u [] c calls refl) t) calls (λ earlier x later e. u (c ∷ earlier) x later (ap (λ (l : List Call). c ∷ l) e))
-
-reached-run : {d : Device} → Reached d → (calls : List Call) → Reached (run d calls)
-reached-run h [] = h
-reached-run h (c ∷ calls) = reached-run (reached-step h c) calls
 
 warns : {b : ℕ} {d : Device} → Reached d → Raised b (d .state .flag) → Warns b d
 warns {d = d} h t = record { flag = d .state .flag; sent = reached-agrees h .always-shown .flag; width = reached-sound h .state-ok .flag-in; raised = t }
@@ -289,7 +201,7 @@ module _ (d : Device) (none : d .state .readings .any ≡ false) where
   first-accepted n some true elec temp integrity e = absurd (some e)
   first-accepted n some false elec temp integrity e = first elec temp integrity
 
-anew : (d : Device) → Reached d → (bytes : List ℕ) (room : ℕ) → Writes 100 d bytes room → Anew d (afterCall d (frame bytes room))
+anew : (d : Device) → Reached d → (bytes : List ℕ) (room : ℕ) → AcceptedWrite 100 d bytes room → Anew d (afterCall d (frame bytes room))
 unfolding restarted
 anew d h bytes room w =
     let after : Device = afterCall d (frame bytes room) in

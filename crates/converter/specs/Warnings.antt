@@ -23,7 +23,7 @@ use Rattle.converter.specs.History.{NoneShown}
 -- ---- which call raises bit b, and which clears it
 
 -- an accepted write to register n, by its bytes: function 16, and "Wire address = 2 × register number"
-pub record Writes (n : ℕ) (d : Device) (bytes : List ℕ) (room : ℕ) : Type 0 where
+pub record AcceptedWrite (n : ℕ) (d : Device) (bytes : List ℕ) (room : ℕ) : Type 0 where
   pub accepted : number d (frame bytes room) ≡ 0
   pub function : functionOf bytes ≡ 16
   pub address : wordAt bytes 2 ≡ 2 * n
@@ -35,13 +35,13 @@ RaisedAt b d c = (number d c ≡ 0) × Raised b (afterCall d c .state .readings 
 -- "RST shall now add REBOOT to FLAG": RST is 100, REBOOT 32768, which is bit 15
 abbrev pub Raises : ℕ → Device → Call → Type 0
 Raises b d (reading elec temp integrity) = RaisedAt b d (reading elec temp integrity)
-Raises b d (frame bytes room) = Writes 100 d bytes room × (b ≡ 15)
+Raises b d (frame bytes room) = AcceptedWrite 100 d bytes room × (b ≡ 15)
 Raises b d report = ⊥
 Raises b d (corner own samples) = RaisedAt b d (corner own samples)
 
 -- a write to FLAG, which is 14, of a whole number that lacks the bit
 pub record Lacks (b : ℕ) (d : Device) (bytes : List ℕ) (room : ℕ) : Type 0 where
-  pub write : Writes 14 d bytes room
+  pub write : AcceptedWrite 14 d bytes room
   pub whole : ℕ
   pub is : exact (valueOf bytes) .top ≡ pos whole *ℤ exact (valueOf bytes) .low
   pub without : Raised b whole → ⊥
@@ -95,4 +95,4 @@ pub record Outlives : Type 0 where
   pub bits : (d : Device) (c : Call) (b : ℕ) → BitBy d c b
   -- what is raised at any time is read after any calls, resets included, until a write to FLAG that lacks it
   pub warned : (d : Device) → Reached d → (b : ℕ) (c : Call) → Raises b d c → (calls : List Call) → Uncleared b (afterCall d c) calls → Warns b (run d (c ∷ calls))
-  pub reset : (d : Device) → Reached d → (bytes : List ℕ) (room : ℕ) → Writes 100 d bytes room → Anew d (afterCall d (frame bytes room))
+  pub reset : (d : Device) → Reached d → (bytes : List ℕ) (room : ℕ) → AcceptedWrite 100 d bytes room → Anew d (afterCall d (frame bytes room))
