@@ -1,19 +1,22 @@
 -- `takes` and `counted` are what `specs/Fit.antt` says in the paper's words. Assumes nothing.
 use mathlib.Core.Path.{_≡_, refl, sym, ap, ap₂, _∙_, subst}
 use mathlib.Core.Bool.{Bool, true, false, _&&_, _||_, false≢true}
-use Prim.Native.Nat.{ℕ, zero, suc, _*_, _/_, _%_, _^_}
-use native.Mathlib.Nat.{div-add-mod', mul-mod-left}
+use Prim.Native.Nat.{ℕ, zero, suc, _<_, _*_, _/_, _%_, _^_}
+use native.Mathlib.Nat.{div-add-mod', mul-mod-left, mul-one}
 use native.Mathlib.Omega.{arith}
 use borrow.Author.Tests.{lt-ltb, eq-eqb, eqb-true}
 use lib.Dec.{eqb, ltb}
 use lib.IntN.{ℤ, pos, one, natAbs, _*ℤ_, *ℤ-one}
 use lib.Signed.{leZ}
-use lib.Ieee.{Float, nan, inf, fin, up, down}
+use lib.Ieee.{Float, nan, inf, fin, binary32, up, down, ofInt}
+use lib.Ieee.Back.{round-whole as round-float}
+use lib.Ieee.Exact.{HasValue}
 use lib.Ieee.Fits.{down-pos}
 use Rattle.integers.proofs.Magnitude.{abs-mul}
 use Rattle.integers.proofs.Order.{le-yes, yes-le}
 use Rattle.arithmetic.specs.Round.{roundDiv, Nearest}
 use Rattle.arithmetic.proofs.Round.{round-nearest, round-whole}
+use Rattle.binary32.specs.Sent.{wholeFloat}
 use Rattle.binary32.specs.Received.{signed, exact, takes, nearest, counted}
 use Rattle.binary32.specs.Fit.{inCounts, Whole, Fit, FitTaken}
 use Rattle.binary32.specs.declared.received.Range.{Range}
@@ -85,3 +88,13 @@ counted-whole r (fin s m e) h none z is =
 
 pub whole-counted : (r : Range) (x : Float) → takes r x ≡ true → r .shift ≡ 0 → exact x .top ≡ counted r x *ℤ exact x .low
 whole-counted r x h e = let w = fit r x h .whole e in w .is ∙ ap (λ (z : ℤ). z *ℤ exact x .low) (sym (counted-whole r x h e (w .number) (w .is)))
+
+-- and one of 16 bits is sent as itself
+pub whole-exact : (n : ℕ) → n < 2 ^ 16 → exact (wholeFloat n) .top ≡ pos n *ℤ exact (wholeFloat n) .low
+unfolding ofInt
+whole-exact n h = by (wholeFloat n) (round-float binary32 false n (omega (arith, h)))
+  where
+    by : (x : Float) → HasValue x false n 1 → exact x .top ≡ pos n *ℤ exact x .low
+    by nan v = absurd v
+    by (inf s) v = absurd v
+    by (fin s m e) v = rw (v .0) (ap pos (sym (mul-one (m * up e)) ∙ v .1))

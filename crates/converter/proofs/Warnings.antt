@@ -2,7 +2,7 @@
 use mathlib.Core.Path.{_≡_, refl, sym, ap, _∙_, subst}
 use mathlib.Core.Bool.{Bool, true, false, cond, false≢true, true≢false}
 use mathlib.Core.List.{List, [], _∷_}
-use mathlib.Core.Logic.{_↔_, ⊎-elim}
+use mathlib.Core.Logic.{_↔_, _⊎_, inl, inr, ⊎-elim}
 use Prim.Native.Nat.{ℕ, _*_}
 use native.Mathlib.Omega.{arith}
 use lib.Bits.{bitOr, bitAnd}
@@ -18,7 +18,7 @@ use Rattle.compensation.proofs.Flags.{bit-or}
 use Rattle.binary32.specs.Received.{exact, counted}
 use Rattle.binary32.specs.Sent.{wholeFloat}
 use Rattle.binary32.proofs.Counted.{counted-up}
-use Rattle.binary32.proofs.Fit.{counted-whole, whole-counted}
+use Rattle.binary32.proofs.Fit.{counted-whole, whole-counted, whole-exact}
 use Rattle.register.specs.Number.{FLAG, RST, SNAP, PEAKRESET}
 use Rattle.register.specs.Register.{accessOf, rangeOf}
 use Rattle.modbus.specs.Frame.{valueOf}
@@ -33,8 +33,7 @@ use Rattle.converter.specs.Making.{made}
 use Rattle.converter.specs.Corner.{at, cornerRefused}
 use Rattle.converter.specs.Call.{Call, reading, frame, report, corner, afterReading, afterCall, run, number}
 use Rattle.converter.specs.Reached.{Reached}
-use Rattle.converter.specs.Wire.{Sends}
-use Rattle.converter.specs.Warnings.{AcceptedWrite, Raises, Lacks, Clears, BitBy, Uncleared, Warns, First, Anew, Outlives}
+use Rattle.converter.specs.Warnings.{AcceptedWrite, Raises, Lacks, Clears, BitBy, Uncleared, RaisedAmong, StillRaised, FlagRead, First, Anew, Outlives}
 use Rattle.answers.specs.Parts.{restarts}
 use Rattle.converter.proofs.AcceptedWrites.{asked, flag-asked, reset-asked, asked-flag, asked-reset}
 use Rattle.converter.proofs.Bits.{bit-and, bit-power, bit-small, raised-or-not}
@@ -179,16 +178,42 @@ module _ (b : ℕ) (d : Device) (c : Call) where
 
 outlives : (b : ℕ) (d : Device) → Raised b (d .state .flag) → (calls : List Call) → Uncleared b d calls → Raised b (run d calls .state .flag)
 outlives b d t [] u = t
-outlives b d t (c ∷ calls) u = outlives b (afterCall d c) (stays-raised b d c (u [] c calls refl) t) calls (λ earlier x later e. u (c ∷ earlier) x later (ap (λ (l : List Call). c ∷ l) e))
+outlives b d t (c ∷ calls) u = outlives b (afterCall d c) (stays-raised b d c (u .0) t) calls (u .1)
 
-warns : {b : ℕ} {d : Device} → Reached d → Raised b (d .state .flag) → Warns b d
-warns {d = d} h t = record { flag = d .state .flag; sent = reached-agrees h .always-shown .flag; width = reached-sound h .state-ok .flag-in; raised = t }
+among : (b : ℕ) (d : Device) (calls : List Call) → RaisedAmong b d calls → Raised b (run d calls .state .flag)
+among b d (c ∷ calls) (inl k) = outlives b (afterCall d c) (is-raised b d c (k .0)) calls (k .1)
+among b d (c ∷ calls) (inr k) = among b (afterCall d c) calls k
 
-starts : (sheet : List ℕ) (station : ℕ) → made sheet station .number ≡ 0 → Sends (made sheet station .device) 14 (wholeFloat 32768)
-unfolding fresh
-starts sheet station h =
-    let d : Device = made sheet station .device in
-    subst (λ (n : ℕ). Sends d 14 (wholeFloat n)) (ap (λ (g : Device). g .state .flag) (making-accepted sheet station h .starts)) (reached-agrees (reached-made sheet station h) .always-shown .flag)
+-- and a bit that is set was raised before them, or among them
+since : (b : ℕ) (d : Device) (calls : List Call) → Raised b (run d calls .state .flag) → (Raised b (d .state .flag) × Uncleared b d calls) ⊎ RaisedAmong b d calls
+since b d [] t = inl (t, tt)
+since b d (c ∷ calls) t = ⊎-elim by (λ k. inr (inr k)) (since b (afterCall d c) calls t)
+  where
+    by : Raised b (afterCall d c .state .flag) × Uncleared b (afterCall d c) calls → (Raised b (d .state .flag) × Uncleared b d (c ∷ calls)) ⊎ RaisedAmong b d (c ∷ calls)
+    by p =
+        ⊎-elim (λ r. inl (r, (λ k. bit-by d c b .cleared r .1 k (p .0), p .1))) (λ not. inr (inl (bit-by d c b .raised not .0 (p .0), p .1)))
+        (raised-or-not b (d .state .flag))
+
+-- ---- from a start
+
+flag-read : {d : Device} → Reached d → FlagRead d (d .state .flag)
+flag-read {d} h = record { value = wholeFloat (d .state .flag); sent = reached-agrees h .always-shown .flag; is = whole-exact (d .state .flag) (reached-sound h .state-ok .flag-in) }
+
+module _ (sheet : List ℕ) (station : ℕ) (h : made sheet station .number ≡ 0) where
+  abbrev device : Device
+  device = made sheet station .device
+
+  reboot-alone : device .state .flag ≡ reboot
+  unfolding fresh
+  reboot-alone = ap (λ (g : Device). g .state .flag) (making-accepted sheet station h .starts)
+
+  still : (calls : List Call) (b : ℕ) → StillRaised b device calls → Raised b (run device calls .state .flag)
+  unfolding bitAt
+  still calls b (inl k) = outlives b device (subst (Raised b) (sym reboot-alone) (subst (λ (n : ℕ). Raised n reboot) (sym (k .0)) refl)) calls (k .1)
+  still calls b (inr k) = among b device calls k
+
+  exactly : (calls : List Call) (b : ℕ) → Raised b (run device calls .state .flag) ↔ StillRaised b device calls
+  exactly calls b = ((λ t. ⊎-elim (λ p. inl (bit-power b 15 (subst (Raised b) reboot-alone (p .0)), p .1)) (λ k. inr k) (since b device calls t)), still calls b)
 
 -- ---- after RST
 
@@ -217,8 +242,10 @@ anew d h bytes room w =
 
 pub outlive : Outlives
 outlive = record {
-  start = starts;
+  read = λ d h. flag-read h;
+  start = λ sheet station h. subst (FlagRead (made sheet station .device)) (reboot-alone sheet station h) (flag-read (reached-made sheet station h));
   bits = bit-by;
-  warned = λ d h b c k calls u. warns (reached-run (reached-step h c) calls) (outlives b (afterCall d c) (is-raised b d c k) calls u);
+  exactly = exactly;
+  warned = λ sheet station h calls b k. record { flag = _; read = flag-read (reached-run (reached-made sheet station h) calls); raised = still sheet station h calls b k };
   reset = anew;
 }

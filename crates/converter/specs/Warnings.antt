@@ -1,14 +1,14 @@
 -- Change 7, "Flags that outlive a reset": "Site engineers reset a cell before they look at it, and the overload warning is gone. .. RST
--- shall now add REBOOT to FLAG and clear nothing; only a write to FLAG clears." FLAG by the calls and their bytes: neither the log, nor
--- what device and log share, comes into it.
+-- shall now add REBOOT to FLAG and clear nothing; only a write to FLAG clears." FLAG by the calls, their numbers and their bytes: without
+-- the log, and without `reboot` and `flagWhole`, which device and log share.
 use mathlib.Core.Path.{_≡_}
-use mathlib.Core.List.{List, _∷_, _++_}
-use mathlib.Core.Logic.{_↔_}
-use Prim.Native.Nat.{ℕ, _*_, _<_}
+use mathlib.Core.List.{List, [], _∷_}
+use mathlib.Core.Logic.{_↔_, _⊎_}
+use Prim.Native.Nat.{ℕ, _*_}
+use lib.Ieee.{Float}
 use lib.IntN.{ℤ, pos, _*ℤ_}
 use Rattle.compensation.specs.Stat.{Raised}
 use Rattle.binary32.specs.Received.{exact}
-use Rattle.binary32.specs.Sent.{wholeFloat}
 use Rattle.modbus.specs.Frame.{wordAt, functionOf, valueOf}
 use Rattle.state.specs.declared.Readings.{Readings}
 use Rattle.converter.specs.declared.Device.{Device}
@@ -29,15 +29,15 @@ pub record AcceptedWrite (n : ℕ) (d : Device) (bytes : List ℕ) (room : ℕ) 
   pub address : wordAt bytes 2 ≡ 2 * n
 
 -- an accepted reading whose STAT has bit b: "A reading raises its STAT bits in FLAG"
-abbrev pub RaisedAt : ℕ → Device → Call → Type 0
-RaisedAt b d c = (number d c ≡ 0) × Raised b (afterCall d c .state .readings .values .stat)
+abbrev pub ReadingRaises : ℕ → Device → Call → Type 0
+ReadingRaises b d c = (number d c ≡ 0) × Raised b (afterCall d c .state .readings .values .stat)
 
 -- "RST shall now add REBOOT to FLAG": RST is 100, REBOOT 32768, which is bit 15
 abbrev pub Raises : ℕ → Device → Call → Type 0
-Raises b d (reading elec temp integrity) = RaisedAt b d (reading elec temp integrity)
+Raises b d (reading elec temp integrity) = ReadingRaises b d (reading elec temp integrity)
 Raises b d (frame bytes room) = AcceptedWrite 100 d bytes room × (b ≡ 15)
 Raises b d report = ⊥
-Raises b d (corner own samples) = RaisedAt b d (corner own samples)
+Raises b d (corner own samples) = ReadingRaises b d (corner own samples)
 
 -- a write to FLAG, which is 14, of a whole number that lacks the bit
 pub record Lacks (b : ℕ) (d : Device) (bytes : List ℕ) (room : ℕ) : Type 0 where
@@ -58,17 +58,33 @@ pub record BitBy (d : Device) (c : Call) (b : ℕ) : Type 0 where
   pub raised : (Raised b (d .state .flag) → ⊥) → Raised b (afterCall d c .state .flag) ↔ Raises b d c
   pub cleared : Raised b (d .state .flag) → (Raised b (afterCall d c .state .flag) → ⊥) ↔ Clears b d c
 
--- ---- the site engineer's sentence
+-- ---- "A flag's history then runs back to the start or to the last write that lacked its bit, past all resets."
 
 -- none of the calls clears bit b
 abbrev pub Uncleared : ℕ → Device → List Call → Type 0
-Uncleared b d calls = (earlier : List Call) (c : Call) (later : List Call) → calls ≡ earlier ++ (c ∷ later) → Clears b (run d earlier) c → ⊥
+Uncleared b d [] = Unit
+Uncleared b d (c ∷ calls) = (Clears b d c → ⊥) × Uncleared b (afterCall d c) calls
 
--- a master reads FLAG, in bytes, and finds bit b; of 16 bits the float is exact
+-- one of them raises it, and none after that one clears it
+abbrev pub RaisedAmong : ℕ → Device → List Call → Type 0
+RaisedAmong b d [] = ⊥
+RaisedAmong b d (c ∷ calls) = (Raises b d c × Uncleared b (afterCall d c) calls) ⊎ RaisedAmong b (afterCall d c) calls
+
+-- from a start, which raises REBOOT
+abbrev pub StillRaised : ℕ → Device → List Call → Type 0
+StillRaised b d calls = ((b ≡ 15) × Uncleared b d calls) ⊎ RaisedAmong b d calls
+
+-- ---- FLAG as a master reads it: "STAT and FLAG go as floats of their whole numbers."
+
+-- the bytes are of a float whose exact value is n
+pub record FlagRead (d : Device) (n : ℕ) : Type 0 where
+  pub value : Float
+  pub sent : Sends d 14 value
+  pub is : exact value .top ≡ pos n *ℤ exact value .low
+
 pub record Warns (b : ℕ) (d : Device) : Type 0 where
   pub flag : ℕ
-  pub sent : Sends d 14 (wholeFloat flag)
-  pub width : flag < 65536
+  pub read : FlagRead d flag
   pub raised : Raised b flag
 
 -- ---- "PEAK and TROF still begin anew"
@@ -79,7 +95,7 @@ pub record First (r : Readings) : Type 0 where
   pub peak : r .peak ≡ r .values .sys
   pub trof : r .trof ≡ r .values .sys
 
--- no value, no report and no SYSN; the figures stay; and the next reading is a first one
+-- no value, no report and no SYSN; the figures stay; and a reading that comes next is a first one
 pub record Anew (before after : Device) : Type 0 where
   pub values : NoneShown after
   pub sysn : Withholds after 23 11
@@ -90,9 +106,13 @@ pub record Anew (before after : Device) : Type 0 where
 -- ---- all of it
 
 pub record Outlives : Type 0 where
+  pub read : (d : Device) → Reached d → FlagRead d (d .state .flag)
   -- "a start .. clears all, then raises 32768 (REBOOT)"
-  pub start : (sheet : List ℕ) (station : ℕ) → made sheet station .number ≡ 0 → Sends (made sheet station .device) 14 (wholeFloat 32768)
+  pub start : (sheet : List ℕ) (station : ℕ) → made sheet station .number ≡ 0 → FlagRead (made sheet station .device) 32768
   pub bits : (d : Device) (c : Call) (b : ℕ) → BitBy d c b
-  -- what is raised at any time is read after any calls, resets included, until a write to FLAG that lacks it
-  pub warned : (d : Device) → Reached d → (b : ℕ) (c : Call) → Raises b d c → (calls : List Call) → Uncleared b (afterCall d c) calls → Warns b (run d (c ∷ calls))
+  pub exactly : (sheet : List ℕ) (station : ℕ) → made sheet station .number ≡ 0 → (calls : List Call) (b : ℕ)
+      → Raised b (run (made sheet station .device) calls .state .flag) ↔ StillRaised b (made sheet station .device) calls
+  -- the site engineer's: what was raised at any time is read, after any calls, RST included, until a write to FLAG that lacks it
+  pub warned : (sheet : List ℕ) (station : ℕ) → made sheet station .number ≡ 0 → (calls : List Call) (b : ℕ)
+      → StillRaised b (made sheet station .device) calls → Warns b (run (made sheet station .device) calls)
   pub reset : (d : Device) → Reached d → (bytes : List ℕ) (room : ℕ) → AcceptedWrite 100 d bytes room → Anew d (afterCall d (frame bytes room))
