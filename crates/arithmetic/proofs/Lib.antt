@@ -1,5 +1,6 @@
 pub mod Round
 pub mod Table
+pub mod Climb
 pub mod Segment
 pub mod Rows
 pub mod Near

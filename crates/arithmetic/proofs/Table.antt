@@ -6,7 +6,7 @@ use mathlib.Core.List.{List, [], _∷_}
 use Prim.Native.Nat.{ℕ, zero, suc, _<_, _≤_}
 use native.Mathlib.Omega.{arith}
 use lib.IntN.{ℤ, _+ℤ_, _-ℤ_, _*ℤ_}
-use lib.ListN.{length, getD}
+use lib.ListN.{length, getD, drop}
 use lib.Signed.{leZ, _≤ℤ_, _<ℤ_, ≤ℤ-refl, <ℤ-≤ℤ-trans}
 use Rattle.integers.specs.Within.{_within_}
 use Rattle.integers.proofs.Parts.{le-parts}
@@ -42,6 +42,22 @@ interpolated-at j (p ∷ (q ∷ rest)) (suc zero) h l = rw (no-le (h .0), yes-le
 interpolated-at j (p ∷ (q ∷ rest)) (suc (suc k)) h l =
     let above = later q rest k (h .1) (omega arith) in
     rw (no-le (later p (q ∷ rest) (suc k) h (omega arith)), no-le above) (interpolated-at j (q ∷ rest) (suc k) (h .1) (omega arith))
+
+-- ---- past a point
+
+-- t is past the first point, as it is past a later one
+past-first : (p : Point) (table : List Point) (k : ℕ) {t : ℤ} → Rising (p ∷ table) → k < length (p ∷ table) → place (getD (p ∷ table) k []) <ℤ t → place p <ℤ t
+past-first p table zero h l past = past
+past-first p table (suc k) h l past = <ℤ-≤ℤ-trans (later p table k h (omega arith)) (<-≤ past)
+
+-- the points before it are of no account
+pub interpolated-past : (j : ℕ) (table : List Point) (k : ℕ) {t : ℤ} → Rising table → k < length table → place (getD table k []) <ℤ t → interpolated j table t ≡ interpolated j (drop k table) t
+unfolding interpolated
+interpolated-past j table zero h l past = refl
+interpolated-past j [] (suc k) h l past = absurd (omega arith)
+interpolated-past j (p ∷ []) (suc k) h l past = absurd (omega arith)
+interpolated-past j (p ∷ (q ∷ rest)) (suc k) h l past =
+    rw (no-le (past-first p (q ∷ rest) (suc k) h l past), no-le (past-first q rest k (h .1) (omega arith) past)) (interpolated-past j (q ∷ rest) k (h .1) (omega arith) past)
 
 -- ---- the hull
 

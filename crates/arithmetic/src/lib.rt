@@ -6,5 +6,6 @@ mod sign;
 pub use interpolation::Two;
 pub use interpolation::interpolate_one;
 pub use interpolation::interpolate_two;
+pub use interpolation::line_at;
 pub use rounding::round_div;
 pub use sign::magnitude;
