@@ -1,0 +1,3 @@
+pub mod Platinum
+pub mod Table
+pub mod Pt100
