@@ -8,6 +8,7 @@ use native.Mathlib.Omega.{arith}
 use lib.Bits.{bitAnd, bitOr}
 use lib.Dec.{eqb, leb, ltb, leb→le}
 use lib.Ieee.{Float}
+use lib.IntN.{ℤ}
 use lib.ListN.{length, take, drop}
 use borrow.Author.Tests.{eq-eqb, ne-eqb, le-ltb}
 use Rattle.integers.proofs.Machine.{and-left}
@@ -29,6 +30,7 @@ use Rattle.converter.proofs.Wire.{register, sends, withholds}
 use Rattle.converter.proofs.Listed.{unlisted, listed-at}
 use Rattle.binary32.specs.Sent.{stepFloat, wholeFloat}
 use Rattle.checksum.specs.Checksum.{framed}
+use Rattle.probe.specs.Probe.{isBeyond, tempOf}
 use Rattle.modbus.specs.Frame.{stationOf, functionOf, forUs, toUs, checked, judged}
 use Rattle.modbus.specs.Reply.{silent, unlessSilent, writeReply, exceptionCode, exceptionReply}
 use Rattle.modbus.proofs.Replies.{length-framed, value-fits, write-fits, exception-fits}
@@ -44,7 +46,7 @@ use Rattle.state.specs.declared.State.{State}
 use Rattle.answers.specs.declared.Answer.{Answer}
 use Rattle.answers.specs.declared.Answer.the-variants.{Value, Done, Refused}
 use Rattle.converter.specs.Corner.{cornerRefused}
-use Rattle.converter.specs.Call.{Call, reading, frame, report, corner, obeyed, afterCall, answerToBytes, number, replyWith, reply}
+use Rattle.converter.specs.Call.{Call, reading, frame, report, corner, probe, obeyed, afterSample, afterCall, answerToBytes, sampleNumber, number, replyWith, reply}
 use Rattle.converter.specs.Reached.{Reached, Serving}
 use Rattle.converter.specs.Wire.{Sends, Withholds}
 use Rattle.converter.specs.declared.Device.{Device}
@@ -64,12 +66,17 @@ unless-refused : (n : ℕ) (refused : Bool) (d e : Device) → (cond refused n 0
 unless-refused n true d e h = refl
 unless-refused n false d e h = absurd (h refl)
 
+probe-unchanged : (d : Device) (elec temp : ℤ) (integrity : ℕ) (beyond : Bool) → (cond beyond 20 (sampleNumber elec temp integrity) ≡ 0 → ⊥) → cond beyond d (afterSample d elec temp integrity) ≡ d
+probe-unchanged d elec temp integrity true h = refl
+probe-unchanged d elec temp integrity false h = unless-refused 9 (badReading elec temp integrity) d _ h
+
 pub refused-unchanged : (d : Device) (c : Call) → (number d c ≡ 0 → ⊥) → afterCall d c ≡ d
 unfolding answerToBytes
 refused-unchanged d (reading elec temp integrity) h = unless-refused 9 (badReading elec temp integrity) d _ h
 refused-unchanged d (frame bytes room) h = obeyed-unchanged d (judged bytes room (d .setup .station)) h
 refused-unchanged d report h = refl
 refused-unchanged d (corner own samples) h = unless-refused 18 (cornerRefused samples) d _ h
+refused-unchanged d (probe elec resistance integrity) h = probe-unchanged d elec (tempOf resistance) integrity (isBeyond resistance) h
 
 -- ---- the length replied is within the lent buffer
 

@@ -17,6 +17,7 @@ use Rattle.compensation.specs.declared.steps.Values.{Values}
 use Rattle.compensation.proofs.Magnitudes.{cell-input, values-input}
 use Rattle.register.specs.Number.{APPLY, RST, SNAP, PEAKRESET}
 use Rattle.compensation.proofs.Joined.{values-joined}
+use Rattle.probe.specs.Probe.{isBeyond, tempOf}
 use Rattle.modbus.specs.Frame.{judged}
 use Rattle.modbus.specs.declared.frame.Frame.{Frame}
 use Rattle.modbus.specs.declared.frame.Frame.the-variants as asks
@@ -33,8 +34,8 @@ use Rattle.answers.specs.Parts.{isRead, applies, isObeyed, obeys}
 use Rattle.in_force.specs.declared.Setup.{Setup}
 use Rattle.state.specs.declared.State.{State}
 use Rattle.converter.specs.Call as call
-use Rattle.converter.specs.Call.{obeyed, afterCall, number, answerToBytes}
-use Rattle.converter.specs.Reached.{Reached, Delivers, Reading, Serving}
+use Rattle.converter.specs.Call.{Call, obeyed, afterCall, number, answerToBytes}
+use Rattle.converter.specs.Reached.{Reached, OutcomeOf, Delivers, Reading, Probing, Serving}
 use Rattle.answers.specs.declared.Answer.{Answer}
 use Rattle.converter.specs.declared.bus.Answered.{Answered}
 use Rattle.converter.specs.declared.Device.{Device}
@@ -42,11 +43,23 @@ use Rattle.converter.specs.declared.Outcome.{Outcome}
 use Rattle.converter.proofs.Sound.{good-elec, held-within}
 use Rattle.converter.proofs.Reached.{reached-step, reached-sound}
 
+outcome : {d : Device} → Reached d → (c : Call) {r : Outcome} → r ≡ record { number = number d c; device = afterCall d c } → OutcomeOf d c r
+outcome h c e = record { is = e; reached = subst (λ (r : Outcome). Reached (r .device)) (sym e) (reached-step h c) }
+
+-- ---- a reading by the probe
+
+module _ {d : Device} (h : Reached d) (elec resistance : ℤ) (integrity : ℕ) where
+  pub probe-refuses : isBeyond resistance ≡ true → Probing d elec resistance integrity (record { number = 20; device = d })
+  probe-refuses b = outcome h (call.probe elec resistance integrity) (rw b refl)
+
+  pub probe-reads : isBeyond resistance ≡ false → {r : Outcome} → Reading d elec (tempOf resistance) integrity r → Probing d elec resistance integrity r
+  probe-reads b k = outcome h (call.probe elec resistance integrity) (rw b (k .is))
+
 -- ---- a reading
 
 module _ {d : Device} (h : Reached d) (elec temp : ℤ) (integrity : ℕ) where
   gives : {r : Outcome} → r ≡ record { number = number d (call.reading elec temp integrity); device = afterCall d (call.reading elec temp integrity) } → Reading d elec temp integrity r
-  gives e = record { is = e; reached = subst (λ (r : Outcome). Reached (r .device)) (sym e) (reached-step h (call.reading elec temp integrity)) }
+  gives = outcome h (call.reading elec temp integrity)
 
   pub refuses : badReading elec temp integrity ≡ true → Reading d elec temp integrity (record { number = 9; device = d })
   refuses b = gives (rw b refl)

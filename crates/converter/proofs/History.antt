@@ -20,6 +20,7 @@ use Rattle.compensation.proofs.Faithful.{faithful}
 use borrow.Author.Tests.{ne-eqb, eqb-true}
 use native.Mathlib.Omega.{arith}
 use Rattle.register.specs.Number.{FLAG, RST, SNAP, PEAKRESET}
+use Rattle.probe.specs.Probe.{isBeyond, tempOf}
 use Rattle.modbus.specs.Frame.{judged}
 use Rattle.modbus.specs.declared.frame.Frame.{Frame}
 use Rattle.modbus.specs.declared.frame.Frame.the-variants.{Refused, Read, Write, Act}
@@ -34,9 +35,9 @@ use Rattle.converter.specs.declared.Device.{Device}
 use Rattle.converter.specs.Making.{made, setupOf, started}
 use Rattle.converter.specs.Corner.{at, cornerRefused}
 use Rattle.converter.specs.declared.corner.Sample.{Sample}
-use Rattle.converter.specs.Call.{Call, reading, frame, report, corner, obeyed, afterReading, afterCall, run}
+use Rattle.converter.specs.Call.{Call, reading, frame, report, corner, probe, obeyed, afterReading, afterSample, afterCall, run}
 use Rattle.converter.specs.Log as log
-use Rattle.converter.specs.Log.{Kept, valued, Entry, peakReset, Event, Log, latest, begun, keptOf, join, resetPeaks, logBy, note, noted, logOf}
+use Rattle.converter.specs.Log.{Kept, valued, Entry, peakReset, Event, Log, latest, begun, keptOf, join, resetPeaks, logBy, noteSample, note, noted, logOf}
 use Rattle.converter.specs.History.{sysSince, Largest, Smallest, Right}
 use Rattle.converter.specs.Jumps.{FilteredAfter, EachFiltered}
 use Rattle.converter.proofs.Neighbours.{none-filtered, more-filtered, reset-filtered}
@@ -154,6 +155,10 @@ reads-or-not : (d : Device) (l : Log) → Tracks d l → (elec temp : ℤ) (inte
 reads-or-not d l t elec temp integrity true e = t
 reads-or-not d l t elec temp integrity false e = reads d l t elec temp integrity (e refl)
 
+probes : (d : Device) (l : Log) → Tracks d l → (elec temp : ℤ) (integrity : ℕ) (beyond : Bool) → Tracks (cond beyond d (afterSample d elec temp integrity)) (cond beyond l (noteSample l elec temp integrity))
+probes d l t elec temp integrity true = t
+probes d l t elec temp integrity false = reads-or-not d l t elec temp integrity (badReading elec temp integrity) (λ e. e)
+
 -- ---- a peak reset
 
 resets : (r : Readings) (m : Option Remembered) (es : List Entry) → Tells r m es → (k : Kept) → latest es ≡ some k → Tells (peaksAt r) m (peakReset ∷ es)
@@ -256,6 +261,7 @@ steps d l t report = t
 steps d l t (corner own samples) =
     let x : Sample = at samples own in
     reads-or-not d l t (x .elec) (x .temp) (x .integrity) (cornerRefused samples) (λ e. corner-good samples e own)
+steps d l t (probe elec resistance integrity) = probes d l t elec (tempOf resistance) integrity (isBeyond resistance)
 
 pub runs : (d : Device) (l : Log) → Tracks d l → (cs : List Call) → Tracks (run d cs) (noted l cs)
 runs d l t [] = t

@@ -21,6 +21,7 @@ pub mod Agrees
 mod AcceptedWrites
 pub mod Warnings
 pub mod Jumps
+pub mod Probes
 pub mod Pulling
 pub mod Panel
 pub mod Example

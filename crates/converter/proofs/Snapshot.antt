@@ -9,6 +9,7 @@ use lib.IntN.{ℤ}
 use Rattle.compensation.specs.declared.steps.Values.{Values}
 use Rattle.integers.proofs.Order.{pick}
 use Rattle.register.specs.Number.{FLAG, RST, SNAP, PEAKRESET}
+use Rattle.probe.specs.Probe.{isBeyond, tempOf}
 use Rattle.modbus.specs.Frame.{judged}
 use Rattle.modbus.specs.declared.frame.Frame.{Frame}
 use Rattle.modbus.specs.declared.frame.Frame.the-variants.{Refused, Read, Write, Act}
@@ -19,7 +20,7 @@ use Rattle.state.specs.declared.Snapshot.{Snapshot}
 use Rattle.state.specs.declared.State.{State}
 use Rattle.converter.specs.Making.{made, setupOf}
 use Rattle.converter.specs.Corner.{at, cornerRefused}
-use Rattle.converter.specs.Call.{Call, reading, frame, report, corner, afterReading, afterCall, run}
+use Rattle.converter.specs.Call.{Call, reading, frame, report, corner, probe, afterReading, afterSample, afterCall, run}
 use Rattle.converter.specs.declared.corner.Sample.{Sample}
 use Rattle.converter.specs.Log.{Kept, Log, latest, begun, note}
 use Rattle.converter.specs.Snapshot.{snapBy, shotBy, shot, shots, sysnOf}
@@ -53,9 +54,13 @@ module _ (d : Device) (l : Log) (t : Tracks d l) (z : Option ℤ) (h : Taken (d 
   obeys (Write r x) = pick (eqb r FLAG) _ _ (λ (s : State). Taken (s .snapshot) z) (λ e. h) (λ e. h)
   obeys (Act r) = acts (eqb r RST) (eqb r SNAP) (eqb r PEAKRESET)
 
+  sampled : (elec temp : ℤ) (integrity : ℕ) → Taken (afterSample d elec temp integrity .state .snapshot) z
+  unfolding stateAfterReading stateAfterValues
+  sampled elec temp integrity = pick (badReading elec temp integrity) d (afterReading d elec temp integrity) (λ (g : Device). Taken (g .state .snapshot) z) (λ e. h) (λ e. h)
+
   one : (c : Call) → Taken (afterCall d c .state .snapshot) (shot l z c)
   unfolding stateAfterReading stateAfterValues
-  one (reading elec temp integrity) = pick (badReading elec temp integrity) d (afterReading d elec temp integrity) (λ (g : Device). Taken (g .state .snapshot) z) (λ e. h) (λ e. h)
+  one (reading elec temp integrity) = sampled elec temp integrity
   one (frame bytes room) =
       subst (λ (s : Setup). Taken (stateBy (d .state) (judged bytes room (d .setup .station)) .snapshot) (shotBy l z (judged bytes room (s .station)))) (t .setup-is)
       (obeys (judged bytes room (d .setup .station)))
@@ -63,6 +68,9 @@ module _ (d : Device) (l : Log) (t : Tracks d l) (z : Option ℤ) (h : Taken (d 
   one (corner own samples) =
       let x : Sample = at samples own in
       pick (cornerRefused samples) d (afterReading d (x .elec) (x .temp) (x .integrity)) (λ (g : Device). Taken (g .state .snapshot) z) (λ e. h) (λ e. h)
+  one (probe elec resistance integrity) =
+      let temp : ℤ = tempOf resistance in
+      pick (isBeyond resistance) d (afterSample d elec temp integrity) (λ (g : Device). Taken (g .state .snapshot) z) (λ e. h) (λ e. sampled elec temp integrity)
 
 all : (d : Device) (l : Log) → Tracks d l → (z : Option ℤ) → Taken (d .state .snapshot) z → (cs : List Call) → Taken (run d cs .state .snapshot) (shots l z cs)
 all d l t z h [] = h

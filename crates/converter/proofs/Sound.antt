@@ -36,6 +36,7 @@ use Rattle.sheet.specs.Judge.{figuresNumber}
 use Rattle.sheet.proofs.Theorems.{judged-acceptable}
 use Rattle.modbus.specs.declared.frame.Frame.{Frame}
 use Rattle.modbus.specs.declared.frame.Frame.the-variants.{Refused, Read, Write, Act}
+use Rattle.probe.specs.Probe.{isBeyond, tempOf}
 use Rattle.modbus.specs.Frame.{judged}
 use Rattle.state.specs.Reading.{outside, beyond, badReading, larger, smaller, peakAfter, trofAfter, readingsAfter, stateAfterReading, stateAfterValues}
 use Rattle.state.specs.ForCode.{heldAfter}
@@ -50,7 +51,7 @@ use Rattle.state.specs.declared.State.{State}
 use Rattle.converter.specs.declared.Device.{Device}
 use Rattle.converter.specs.Making.{started}
 use Rattle.converter.specs.Corner.{at, cornerRefused}
-use Rattle.converter.specs.Call.{Call, reading, frame, report, corner, afterReading, afterCall}
+use Rattle.converter.specs.Call.{Call, reading, frame, report, corner, probe, afterReading, afterSample, afterCall}
 use Rattle.converter.specs.declared.corner.Sample.{Sample}
 use Rattle.converter.proofs.Corners.{corner-good}
 
@@ -256,8 +257,11 @@ state-sound s (Act r) h =
 pub started-sound : (s : Setup) → SetupSound s → Sound (started s)
 started-sound s h = record { setup-ok = h; state-ok = fresh-sound }
 
+sample-sound : (d : Device) (elec temp : ℤ) (integrity : ℕ) → Sound d → Sound (afterSample d elec temp integrity)
+sample-sound d elec temp integrity h = pick (badReading elec temp integrity) d (afterReading d elec temp integrity) Sound (λ e. h) (λ e. read-sound d elec temp integrity h e)
+
 pub step-sound : (d : Device) (c : Call) → Sound d → Sound (afterCall d c)
-step-sound d (reading elec temp integrity) h = pick (badReading elec temp integrity) d (afterReading d elec temp integrity) Sound (λ e. h) (λ e. read-sound d elec temp integrity h e)
+step-sound d (reading elec temp integrity) h = sample-sound d elec temp integrity h
 step-sound d (frame bytes room) h =
     let f : Frame = judged bytes room (d .setup .station) in
     record { setup-ok = setup-sound (d .setup) f (h .setup-ok); state-ok = state-sound (d .state) f (h .state-ok) }
@@ -265,3 +269,6 @@ step-sound d report h = h
 step-sound d (corner own samples) h =
     let x : Sample = at samples own in
     pick (cornerRefused samples) d (afterReading d (x .elec) (x .temp) (x .integrity)) Sound (λ e. h) (λ e. read-sound d (x .elec) (x .temp) (x .integrity) h (corner-good samples e own))
+step-sound d (probe elec resistance integrity) h =
+    let temp : ℤ = tempOf resistance in
+    pick (isBeyond resistance) d (afterSample d elec temp integrity) Sound (λ e. h) (λ e. sample-sound d elec temp integrity h)

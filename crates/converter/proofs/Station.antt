@@ -7,6 +7,7 @@ use lib.IntN.{ℤ}
 use lib.Dec.{eqb}
 use Rattle.integers.proofs.Order.{is-true, pick}
 use Rattle.register.specs.Number.{SZ, APPLY, RST}
+use Rattle.probe.specs.Probe.{isBeyond, tempOf}
 use Rattle.modbus.specs.Frame.{judged}
 use Rattle.modbus.specs.declared.frame.Frame.{Frame}
 use Rattle.modbus.specs.declared.frame.Frame.the-variants.{Refused, Read, Write, Act}
@@ -16,7 +17,7 @@ use Rattle.state.specs.Reading.{badReading}
 use Rattle.in_force.specs.declared.Setup.{Setup}
 use Rattle.converter.specs.Making.{stationFits, noDevice, made}
 use Rattle.converter.specs.Corner.{at, cornerRefused}
-use Rattle.converter.specs.Call.{Call, reading, frame, report, corner, afterReading, afterCall, run}
+use Rattle.converter.specs.Call.{Call, reading, frame, report, corner, probe, afterReading, afterSample, afterCall, run}
 use Rattle.converter.specs.declared.corner.Sample.{Sample}
 use Rattle.converter.specs.Reached.{Reached}
 use Rattle.converter.specs.declared.Device.{Device}
@@ -40,6 +41,9 @@ step-station d (reading elec temp integrity) = read-or-not d (badReading elec te
 step-station d (frame bytes room) = by-station (d .setup) (judged bytes room (d .setup .station))
 step-station d report = refl
 step-station d (corner own samples) = let x : Sample = at samples own in read-or-not d (cornerRefused samples) (x .elec) (x .temp) (x .integrity)
+step-station d (probe elec resistance integrity) =
+    let temp : ℤ = tempOf resistance in
+    pick (isBeyond resistance) d (afterSample d elec temp integrity) (λ (g : Device). g .setup .station ≡ d .setup .station) (λ e. refl) (λ e. read-or-not d (badReading elec temp integrity) elec temp integrity)
 
 run-station : (d : Device) (cs : List Call) → run d cs .setup .station ≡ d .setup .station
 run-station d [] = refl

@@ -21,6 +21,7 @@ use Rattle.binary32.proofs.Counted.{counted-up}
 use Rattle.binary32.proofs.Fit.{counted-whole, whole-counted, whole-exact}
 use Rattle.register.specs.Number.{FLAG, RST, SNAP, PEAKRESET}
 use Rattle.register.specs.Register.{accessOf, rangeOf}
+use Rattle.probe.specs.Probe.{isBeyond, tempOf}
 use Rattle.modbus.specs.Frame.{valueOf}
 use Rattle.modbus.specs.declared.frame.Frame.{Frame}
 use Rattle.modbus.specs.declared.frame.Frame.the-variants.{Refused, Read, Write, Act}
@@ -31,7 +32,7 @@ use Rattle.converter.specs.declared.Device.{Device}
 use Rattle.converter.specs.declared.corner.Sample.{Sample}
 use Rattle.converter.specs.Making.{made}
 use Rattle.converter.specs.Corner.{at, cornerRefused}
-use Rattle.converter.specs.Call.{Call, reading, frame, report, corner, afterReading, afterCall, run, number}
+use Rattle.converter.specs.Call.{Call, reading, frame, report, corner, probe, afterReading, afterSample, afterCall, run, sampleNumber, number}
 use Rattle.converter.specs.Reached.{Reached}
 use Rattle.converter.specs.Warnings.{AcceptedWrite, Raises, Lacks, Clears, BitBy, Uncleared, RaisedAmong, StillRaised, FlagRead, First, Anew, Outlives}
 use Rattle.answers.specs.Parts.{restarts}
@@ -84,6 +85,12 @@ module _ (b : ℕ) where
   unfolding stateAfterReading stateAfterValues readingsAfter
   sampled d n some true elec temp integrity = stays (d .state .flag) (λ k. some (k .0)) (λ k. k)
   sampled d n some false elec temp integrity = adds (d .state .flag) _ (λ t. (refl, t)) (λ k. k .1) (λ k. k)
+
+  probed : (d : Device) (beyond : Bool) (elec temp : ℤ) (integrity : ℕ)
+      → let after : Device = cond beyond d (afterSample d elec temp integrity) in
+      Turns ((cond beyond 20 (sampleNumber elec temp integrity) ≡ 0) × Raised b (after .state .readings .values .stat)) ⊥ (d .state .flag) (after .state .flag)
+  probed d true elec temp integrity = stays (d .state .flag) (λ k. omega (arith, k .0)) (λ k. k)
+  probed d false elec temp integrity = sampled d 9 (λ e. omega (arith, e)) (badReading elec temp integrity) elec temp integrity
 
   -- a frame
   module _ (d : Device) (s : List ℕ) (room : ℕ) where
@@ -156,6 +163,7 @@ bit-by d (corner own samples) b =
     let x : Sample = at samples own in
     let f = sampled b d 18 (λ e. omega (arith, e)) (cornerRefused samples) (x .elec) (x .temp) (x .integrity) in
     record { raised = f .0; cleared = f .1 }
+bit-by d (probe elec resistance integrity) b = let f = probed b d (isBeyond resistance) elec (tempOf resistance) integrity in record { raised = f .0; cleared = f .1 }
 
 -- ---- any calls
 
@@ -169,6 +177,7 @@ module _ (b : ℕ) (d : Device) (c : Call) where
       by (frame bytes room) k l = omega (arith, k .0 .address, l .write .address)
       by report k l = l
       by (corner own samples) k l = l
+      by (probe elec resistance integrity) k l = l
 
   stays-raised : (Clears b d c → ⊥) → Raised b (d .state .flag) → Raised b (afterCall d c .state .flag)
   stays-raised un t = ⊎-elim (λ r. r) (λ not. absurd (un (bit-by d c b .cleared t .0 not))) (raised-or-not b (afterCall d c .state .flag))
@@ -226,6 +235,10 @@ module _ (d : Device) (none : d .state .readings .any ≡ false) where
   first-accepted n some true elec temp integrity e = absurd (some e)
   first-accepted n some false elec temp integrity e = first elec temp integrity
 
+  first-probed : (beyond : Bool) (elec temp : ℤ) (integrity : ℕ) → cond beyond 20 (sampleNumber elec temp integrity) ≡ 0 → First (cond beyond d (afterSample d elec temp integrity) .state .readings)
+  first-probed true elec temp integrity e = absurd (omega (arith, e))
+  first-probed false elec temp integrity e = first-accepted 9 (λ k. omega (arith, k)) (badReading elec temp integrity) elec temp integrity e
+
 anew : (d : Device) → Reached d → (bytes : List ℕ) (room : ℕ) → AcceptedWrite 100 d bytes room → Anew d (afterCall d (frame bytes room))
 unfolding restarted
 anew d h bytes room w =
@@ -238,6 +251,7 @@ anew d h bytes room w =
       figures = ap (λ (g : Device). g .setup .figures) (rst-restarts d bytes room e);
       next = λ elec temp integrity. first-accepted after none 9 (λ k. omega (arith, k)) (badReading elec temp integrity) elec temp integrity;
       next-corner = λ own samples. let x : Sample = at samples own in first-accepted after none 18 (λ k. omega (arith, k)) (cornerRefused samples) (x .elec) (x .temp) (x .integrity);
+      next-probe = λ elec resistance integrity. first-probed after none (isBeyond resistance) elec (tempOf resistance) integrity;
     }
 
 pub outlive : Outlives

@@ -3,6 +3,7 @@ use mathlib.Core.Bool.{cond}
 use mathlib.Core.List.{List, [], _∷_}
 use Prim.Native.Nat.{ℕ}
 use lib.IntN.{ℤ}
+use Rattle.probe.specs.Probe.{isBeyond, tempOf}
 use Rattle.modbus.specs.Frame.{judged}
 use Rattle.modbus.specs.declared.frame.Frame.{Frame}
 use Rattle.modbus.specs.Reply.{valueReply, writeReply, exceptionReply}
@@ -25,6 +26,8 @@ pub data Call : Type 0 where
   report : Call
   -- "In demand 3's lists this call counts, for each device, as its corner's reading, refused if the call is." (Change 4)
   corner : (own : Corner) (samples : Samples) → Call
+  -- "A second reading call takes resistance, in 0.0001 ohm, in place of TEMP, and is otherwise a reading, in demand 3's lists too" (Change 8)
+  probe : (elec resistance : ℤ) (integrity : ℕ) → Call
 
 -- a judged frame is obeyed
 abbrev pub obeyed : Device → Frame → Device
@@ -35,11 +38,15 @@ obeyed d f = record { setup = setupBy (d .setup) f; state = stateBy (d .state) f
 abbrev pub afterReading : Device → ℤ → ℤ → ℕ → Device
 afterReading d elec temp integrity = record { setup = d .setup; state = stateAfterReading (d .setup .figures) (d .state) elec temp integrity }
 
+abbrev pub afterSample : Device → ℤ → ℤ → ℕ → Device
+afterSample d elec temp integrity = cond (badReading elec temp integrity) d (afterReading d elec temp integrity)
+
 abbrev pub afterCall : Device → Call → Device
-afterCall d (reading elec temp integrity) = cond (badReading elec temp integrity) d (afterReading d elec temp integrity)
+afterCall d (reading elec temp integrity) = afterSample d elec temp integrity
 afterCall d (frame bytes room) = obeyed d (judged bytes room (d .setup .station))
 afterCall d report = d
 afterCall d (corner own samples) = let x : Sample = at samples own in cond (cornerRefused samples) d (afterReading d (x .elec) (x .temp) (x .integrity))
+afterCall d (probe elec resistance integrity) = cond (isBeyond resistance) d (afterSample d elec (tempOf resistance) integrity)
 
 abbrev pub run : Device → List Call → Device
 run d [] = d
@@ -50,11 +57,16 @@ run d (c ∷ cs) = run (afterCall d c) cs
 unfoldable pub answerToBytes : Device → List ℕ → ℕ → Answer
 answerToBytes d bytes room = answerOf (d .state) (d .setup) (judged bytes room (d .setup .station))
 
+abbrev pub sampleNumber : ℤ → ℤ → ℕ → ℕ
+sampleNumber elec temp integrity = cond (badReading elec temp integrity) 9 0
+
 abbrev pub number : Device → Call → ℕ
-number d (reading elec temp integrity) = cond (badReading elec temp integrity) 9 0
+number d (reading elec temp integrity) = sampleNumber elec temp integrity
 number d (frame bytes room) = numberOf (answerToBytes d bytes room)
 number d report = reportOf (d .state .readings) .number
 number d (corner own samples) = cond (cornerRefused samples) 18 0
+-- "(Number 20, probe, before 9 ..)"
+number d (probe elec resistance integrity) = cond (isBeyond resistance) 20 (sampleNumber elec (tempOf resistance) integrity)
 
 -- the reply's bytes, none where the device is silent
 abbrev pub replyWith : List ℕ → ℕ → Answer → List ℕ

@@ -6,6 +6,7 @@ pub mod Wire
 pub mod Log
 pub mod Corners
 pub mod Snapshot
+pub mod Probes
 pub mod Jumps
 pub mod Pulling
 pub mod History

@@ -12,6 +12,7 @@ use Rattle.figures.specs.declared.Calibration.{Calibration}
 use Rattle.compensation.specs.Filter.{Remembered, remembered}
 use Rattle.compensation.specs.Values.{valuesOf}
 use Rattle.compensation.specs.declared.steps.Values.{Values}
+use Rattle.probe.specs.Probe.{isBeyond, tempOf}
 use Rattle.register.specs.Number.{FLAG, RST, PEAKRESET}
 use Rattle.modbus.specs.Frame.{judged}
 use Rattle.modbus.specs.declared.frame.Frame.{Frame}
@@ -22,7 +23,7 @@ use Rattle.state.specs.Request.{reboot, flagWhole}
 use Rattle.in_force.specs.declared.Setup.{Setup}
 use Rattle.converter.specs.Making.{setupOf}
 use Rattle.converter.specs.Corner.{at, cornerRefused}
-use Rattle.converter.specs.Call.{Call, reading, frame, report, corner}
+use Rattle.converter.specs.Call.{Call, reading, frame, report, corner, probe}
 use Rattle.converter.specs.declared.corner.Sample.{Sample}
 
 -- a reading that joined: the figures in force at it, its input, unfiltered and filtered, TEMP and integrity byte
@@ -93,11 +94,16 @@ logBy l (Act r) =
     cond (eqb r RST) (begun setup (l .events))
     (record { setup = setup; filter = l .filter; readings = cond (eqb r PEAKRESET) (resetPeaks (latest (l .readings)) (l .readings)) (l .readings); events = l .events })
 
+abbrev pub noteSample : Log → ℤ → ℤ → ℕ → Log
+noteSample l elec temp integrity = cond (badReading elec temp integrity) l (join l (keptOf l elec temp integrity))
+
 abbrev pub note : Log → Call → Log
-note l (reading elec temp integrity) = cond (badReading elec temp integrity) l (join l (keptOf l elec temp integrity))
+note l (reading elec temp integrity) = noteSample l elec temp integrity
 note l (frame bytes room) = logBy l (judged bytes room (l .setup .station))
 note l report = l
 note l (corner own samples) = let x : Sample = at samples own in cond (cornerRefused samples) l (join l (keptOf l (x .elec) (x .temp) (x .integrity)))
+-- "the exact value begins at this rounded TEMP" (Change 8)
+note l (probe elec resistance integrity) = cond (isBeyond resistance) l (noteSample l elec (tempOf resistance) integrity)
 
 abbrev pub noted : Log → List Call → Log
 noted l [] = l

@@ -10,7 +10,7 @@ use Rattle.modbus.specs.Frame.{judged}
 use Rattle.modbus.specs.declared.frame.Frame.{Frame}
 use Rattle.modbus.specs.declared.frame.Frame.the-variants.{Refused, Read, Write, Act}
 use Rattle.converter.specs.Making.{setupOf}
-use Rattle.converter.specs.Call.{Call, reading, frame, report, corner}
+use Rattle.converter.specs.Call.{Call, reading, frame, report, corner, probe}
 use Rattle.converter.specs.Log.{Kept, valued, Log, latest, begun, note}
 
 -- by the last reading kept
@@ -30,6 +30,7 @@ shot l sysn (reading elec temp integrity) = sysn
 shot l sysn (frame bytes room) = shotBy l sysn (judged bytes room (l .setup .station))
 shot l sysn report = sysn
 shot l sysn (corner own samples) = sysn
+shot l sysn (probe elec resistance integrity) = sysn
 
 abbrev pub shots : Log → Option ℤ → List Call → Option ℤ
 shots l sysn [] = sysn

@@ -1,4 +1,4 @@
--- The starred cases of 01's "Edges", all layers together: one table with one statement, that the definitions give each row's
+-- The starred cases of 01's "Edges", and the entries "to be proved" of Change 8, all layers together: one table with one statement, that the definitions give each row's
 -- results from its arguments. Nothing is to be believed here but that it is the paper's list.
 use mathlib.Core.Path.{_≡_}
 use mathlib.Core.Bool.{Bool, true, false}
@@ -19,6 +19,7 @@ use Rattle.sheet.specs.Write.{sheetBytes}
 use Rattle.compensation.specs.Filter.{filtered}
 use Rattle.compensation.specs.Reading.{rawCell, craw}
 use Rattle.compensation.specs.Stat.{bitAt, stat, crawor}
+use Rattle.probe.specs.Platinum.{entry}
 use Rattle.binary32.specs.Sent.{stepFloat}
 use Rattle.binary32.specs.Received.{takes, counted}
 use Rattle.register.specs.Number.{SZ}
@@ -63,6 +64,8 @@ pub data Case : Type 0 where
   sheetJudged : (clk : ℤ) (number : ℕ) → Case
   -- a pattern written to SZ: the float that it is, whether SZ takes it, and SZ in steps
   becomes : (pattern : ℕ) (x : Float) (taken : Bool) (steps : ℤ) → Case
+  -- the platinum table's entry at a °C
+  resistance : (celsius ohms : ℤ) → Case
 
 -- the case with its arguments alone, each result 0
 abbrev pub asked : Case → Case
@@ -74,6 +77,7 @@ asked (filteredBy fflv _) = filteredBy fflv (pos 0)
 asked (goesOut steps _) = goesOut steps 0
 asked (sheetJudged clk _) = sheetJudged clk 0
 asked (becomes pattern _ _ _) = becomes pattern (fin false 0 (pos 0)) false (pos 0)
+asked (resistance celsius _) = resistance celsius (pos 0)
 
 -- with the results that the definitions give from its arguments
 abbrev pub worked : Case → Case
@@ -87,6 +91,7 @@ worked (goesOut steps _) = goesOut steps (toBits binary32 (stepFloat steps))
 worked (sheetJudged clk _) = sheetJudged clk (sheetNumber (sheetBytes (apart clk)))
 worked (becomes pattern _ _ _) =
     becomes pattern (ofBits binary32 pattern) (takes (rangeOf SZ) (ofBits binary32 pattern)) (counted (rangeOf SZ) (ofBits binary32 pattern))
+worked (resistance celsius _) = resistance celsius (entry celsius)
 
 -- ---- the table, in the paper's order
 
@@ -120,10 +125,15 @@ starred =
     -- "SZ 2^−17 becomes 1 step,", and Change 5: "SZ −2^−17 becomes −1 step". `fin s m e` is m × 2^e, negative where s is `true`.
     ∷ becomes 0x37000000 (fin false 1 (negℤ (pos 17))) true (pos 1)
     ∷ becomes 0xB7000000 (fin true 1 (negℤ (pos 17))) true (negℤ (pos 1))
+    -- Change 8: "−50 is 803,063; 0 is 1,000,000; 100 is 1,385,055; 150 is 1,573,251"
+    ∷ resistance (negℤ (pos 50)) (pos 803063)
+    ∷ resistance (pos 0) (pos 1000000)
+    ∷ resistance (pos 100) (pos 1385055)
+    ∷ resistance (pos 150) (pos 1573251)
     ∷ []
 
 -- Each case is worked from what it asks: of every kind some case has a result that is not 0, so that none is taken over. And no
--- case is missing: the paper's eight lines have so many.
+-- case is missing: the papers' nine lines have so many.
 pub record Starred : Type 0 where
   pub hold : map worked (map asked starred) ≡ starred
-  pub all : length starred ≡ 3 + 3 + 2 + 2 + 2 + 4 + 2 + 2
+  pub all : length starred ≡ 3 + 3 + 2 + 2 + 2 + 4 + 2 + 2 + 4

@@ -15,7 +15,7 @@ use Rattle.converter.specs.declared.Device.{Device}
 use Rattle.converter.specs.declared.corner.Samples.{Samples}
 use Rattle.converter.specs.Corner.{Corner}
 use Rattle.converter.specs.Making.{made}
-use Rattle.converter.specs.Call.{Call, reading, frame, report, corner, afterCall, run, number}
+use Rattle.converter.specs.Call.{Call, reading, frame, report, corner, probe, afterCall, run, number}
 use Rattle.converter.specs.Reached.{Reached}
 use Rattle.converter.specs.Wire.{Sends, Withholds}
 use Rattle.converter.specs.History.{NoneShown}
@@ -38,6 +38,7 @@ Raises b d (reading elec temp integrity) = ReadingRaises b d (reading elec temp 
 Raises b d (frame bytes room) = AcceptedWrite 100 d bytes room × (b ≡ 15)
 Raises b d report = ⊥
 Raises b d (corner own samples) = ReadingRaises b d (corner own samples)
+Raises b d (probe elec resistance integrity) = ReadingRaises b d (probe elec resistance integrity)
 
 -- a write to FLAG, which is 14, of a whole number that lacks the bit
 pub record Lacks (b : ℕ) (d : Device) (bytes : List ℕ) (room : ℕ) : Type 0 where
@@ -52,6 +53,7 @@ Clears b d (reading elec temp integrity) = ⊥
 Clears b d (frame bytes room) = Lacks b d bytes room
 Clears b d report = ⊥
 Clears b d (corner own samples) = ⊥
+Clears b d (probe elec resistance integrity) = ⊥
 
 -- so every bit, at every call
 pub record BitBy (d : Device) (c : Call) (b : ℕ) : Type 0 where
@@ -102,6 +104,7 @@ pub record Anew (before after : Device) : Type 0 where
   pub figures : after .setup .figures ≡ before .setup .figures
   pub next : (elec temp : ℤ) (integrity : ℕ) → number after (reading elec temp integrity) ≡ 0 → First (afterCall after (reading elec temp integrity) .state .readings)
   pub next-corner : (own : Corner) (samples : Samples) → number after (corner own samples) ≡ 0 → First (afterCall after (corner own samples) .state .readings)
+  pub next-probe : (elec resistance : ℤ) (integrity : ℕ) → number after (probe elec resistance integrity) ≡ 0 → First (afterCall after (probe elec resistance integrity) .state .readings)
 
 -- ---- all of it
 

@@ -3,7 +3,7 @@
 ghost use mathlib.Core.Path.{_≡_};
 ghost use Rattle.state.specs.Report.{reportOf};
 ghost use Rattle.converter.specs.Call.{obeyed};
-ghost use Rattle.converter.specs.Reached.{Reached, Making, Reading, Serving};
+ghost use Rattle.converter.specs.Reached.{Reached, Making, Reading, Probing, Serving};
 
 mod bus;
 mod corner;
@@ -94,6 +94,21 @@ impl Device {
         let mut device = self;
         device.state = state;
         Outcome { number: 0, device }
+    }
+
+    // A reading from the resistance of a platinum probe, in 0.0001 ohm, in place of TEMP (02, Change 8): 20, then 9.
+    pub fn probe(self, elec: i64, resistance: i64, integrity: u8) -> Outcome
+        requires { ⌜ Reached self ⌝ }
+        ensures { λ r. ⌜ Probing self elec resistance integrity r ⌝ }
+    {
+        if probe::is_beyond(resistance) {
+            return Outcome {
+                number: 20,
+                device: self,
+            };
+        }
+        let temp = probe::temp_of(resistance);
+        self.reading(elec, temp, integrity)
     }
 
     // SYS, PEAK, TROF and CELL of the readings: 10, and 0.0 each.
