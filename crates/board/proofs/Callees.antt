@@ -53,6 +53,12 @@ use Rattle.answers.proofs.is_obeyed.Met as is-obeyed-thm
 use Rattle.state.proofs.bad_reading as bad-reading-of
 use Rattle.state.proofs.bad_reading.Symbol as bad-reading-def
 use Rattle.state.proofs.bad_reading.Met as bad-reading-thm
+use Rattle.probe.proofs.is_beyond as is-beyond-of
+use Rattle.probe.proofs.is_beyond.Symbol as is-beyond-def
+use Rattle.probe.proofs.is_beyond.Met as is-beyond-thm
+use Rattle.probe.proofs.temp_of as temp-of-of
+use Rattle.probe.proofs.temp_of.Symbol as temp-of-def
+use Rattle.probe.proofs.temp_of.Met as temp-of-thm
 use Rattle.state.proofs.held_after as held-after-of
 use Rattle.state.proofs.held_after.Symbol as held-after-def
 use Rattle.state.proofs.held_after.Met as held-after-thm
@@ -141,6 +147,18 @@ abbrev pub is-obeyed : Plain
 is-obeyed = record {
   callee = record { name = is-obeyed-def.name; routine = is-obeyed-def.routine; ended = is-obeyed-of.ended; clauses = is-obeyed-of.clauses; met = is-obeyed-thm.met; result = tyBool; typed = λ 𝓤 H A W κs r v is. bool-lawful 𝓤 H A W .typed r _ is .0 };
   makes = λ 𝓤 H A W κs. (LL.makes G.the-type G′.the-plain 𝓤 H A, (EL.makes R.the-type R′.the-plain 𝓤 H A, tt));
+}
+
+abbrev pub is-beyond : Plain
+is-beyond = record {
+  callee = record { name = is-beyond-def.name; routine = is-beyond-def.routine; ended = is-beyond-of.ended; clauses = is-beyond-of.clauses; met = is-beyond-thm.met; result = tyBool; typed = λ 𝓤 H A W κs r v is. bool-lawful 𝓤 H A W .typed r _ is .0 };
+  makes = λ 𝓤 H A W κs. (sint-makes 𝓤 H A W w64, tt);
+}
+
+abbrev pub temp-of : Plain
+temp-of = record {
+  callee = record { name = temp-of-def.name; routine = temp-of-def.routine; ended = temp-of-of.ended; clauses = temp-of-of.clauses; met = temp-of-thm.met; result = tyInt w64; typed = λ 𝓤 H A W κs r v is. sint-lawful 𝓤 H A W w64 .typed r _ is .0 };
+  makes = λ 𝓤 H A W κs. (sint-makes 𝓤 H A W w64, tt);
 }
 
 abbrev pub bad-reading : Plain

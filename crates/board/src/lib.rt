@@ -10,7 +10,7 @@ ghost use Rattle.state.specs.Reading.{badReading};
 ghost use Rattle.converter.specs.Call.{reading, obeyed, afterCall};
 ghost use Rattle.platform.specs.Weights.{sysOf};
 ghost use Rattle.platform.specs.Platform.{AllReached, Weighing};
-ghost use Rattle.converter.specs.Reached.{Reached, Making, Reading, Serving};
+ghost use Rattle.converter.specs.Reached.{Reached, Making, Reading, Probing, Serving};
 use converter::Answered;
 use converter::Device;
 use converter::Outcome;
@@ -39,6 +39,24 @@ pub extern "C" fn converter_reading(device: &mut Device, elec: i64, temp: i64, i
     }
     join(device, elec, temp, integrity);
     0
+}
+
+// A reading from the resistance of a platinum probe, in 0.0001 ohm, in place of TEMP (02, Change 8): 0, or 20, then 9.
+#[no_mangle]
+pub extern "C" fn converter_probe(
+    device: &mut Device,
+    elec: i64,
+    resistance: i64,
+    integrity: u8,
+) -> u8
+    requires { ⌜ Reached (now device) ⌝ }
+    ensures { λ r. ⌜ Probing (now (device .entry)) elec resistance integrity (record { number = r; device = now (device .exit) }) ⌝ }
+{
+    if probe::is_beyond(resistance) {
+        return 20;
+    }
+    let temp = probe::temp_of(resistance);
+    converter_reading(device, elec, temp, integrity)
 }
 
 // A reading of each corner of a platform (02, Change 4), of four records: 0 and the weights, in steps; or 18, zeros, and no corner takes
