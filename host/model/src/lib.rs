@@ -1,5 +1,5 @@
-//! The load cell converter of paper 01, with Changes 1, 2, 4, 5, 6 and 7 of paper 02, in plain Rust, written from
-//! the papers alone.
+//! The load cell converter of paper 01, with Changes 1, 2, 4, 5, 6, 7 and 8 of paper 02, in plain Rust, written
+//! from the papers alone.
 //!
 //! Whole numbers are steps (1/65,536 of a unit) and gains (1/2^28) in `i64`; the widest product,
 //! (CELL - SOFS) x SGAI, is at most 4,259,840,000 x 2^31, which fits. Nothing here uses the heap.
@@ -9,6 +9,7 @@ mod bus;
 mod device;
 pub mod panel;
 mod platform;
+pub mod probe;
 pub mod sheet;
 pub mod value;
 
@@ -40,6 +41,7 @@ pub enum Refusal {
     UnfitCopy = 17,
     CornerRefused = 18,
     Buffers = 19,
+    Probe = 20,
 }
 
 pub type Result<T> = core::result::Result<T, Refusal>;
@@ -57,6 +59,8 @@ pub trait Converter: Clone + PartialEq + Default {
     /// A making into this record; a refused one leaves zeros.
     fn make(&mut self, sheet: &[u8], station: u8) -> u8;
     fn reading(&mut self, elec: i64, temp: i64, integrity: u8) -> u8;
+    /// A reading with a probe's resistance, in 0.0001 ohm, in place of TEMP.
+    fn probe(&mut self, elec: i64, resistance: i64, integrity: u8) -> u8;
     /// The number and the bits of SYS, PEAK, TROF and CELL.
     fn report(&mut self) -> (u8, [u32; 4]);
     /// The number and the length replied.
@@ -90,6 +94,10 @@ impl Converter for Device {
 
     fn reading(&mut self, elec: i64, temp: i64, integrity: u8) -> u8 {
         number(&self.take(elec, temp, integrity))
+    }
+
+    fn probe(&mut self, elec: i64, resistance: i64, integrity: u8) -> u8 {
+        number(&self.take_probe(elec, resistance, integrity))
     }
 
     fn report(&mut self) -> (u8, [u32; 4]) {

@@ -1,9 +1,10 @@
-//! The edges of paper 01, and the rules of Changes 1, 2, 4, 5, 6 and 7 of paper 02.
+//! The edges of paper 01, and the rules of Changes 1, 2, 4, 5, 6, 7 and 8 of paper 02.
 
 mod flags;
 mod forms;
 mod halves;
 mod platform;
+mod probe;
 
 use crate::bus::crc16;
 use crate::device::{filter, interpolate, round_div, scale, REBOOT};
