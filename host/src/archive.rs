@@ -41,6 +41,7 @@ record!(MovedBack { number: u8, length: usize, identity: Identity });
 extern "C" {
     fn converter_make(sheet: *const u8, length: usize, station: u8) -> Outcome;
     fn converter_reading(device: *mut Device, elec: i64, temp: i64, integrity: u8) -> u8;
+    fn converter_probe(device: *mut Device, elec: i64, resistance: i64, integrity: u8) -> u8;
     fn converter_report(device: *const Device) -> Reported;
     fn converter_frame(device: *mut Device, frame: *const u8, length: usize, reply: *mut u8, room: usize) -> Answered;
     fn converter_weigh(
@@ -82,6 +83,10 @@ impl Converter for Device {
 
     fn reading(&mut self, elec: i64, temp: i64, integrity: u8) -> u8 {
         unsafe { converter_reading(self, elec, temp, integrity) }
+    }
+
+    fn probe(&mut self, elec: i64, resistance: i64, integrity: u8) -> u8 {
+        unsafe { converter_probe(self, elec, resistance, integrity) }
     }
 
     fn report(&mut self) -> (u8, [u32; 4]) {
