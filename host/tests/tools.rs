@@ -95,6 +95,7 @@ fn malformed_lines() {
         ("make é 1 = 0", "not hexadecimal bytes: é"),
         ("make - 256 = 0", "not a station: 256"),
         ("reading 0 0 0 = 0", "a device that was not made: 1"),
+        ("probe 0 1000000 0 = 0", "a device that was not made: 1"),
         ("frame - 9 = 13 0 a5a5a5a5a5a5a5a5a5", "a device that was not made: 1"),
         ("write 1 x = 0", "not a room of 0 to 65535: x"),
         ("write 1 99999999999999999999 = 0", "not a room of 0 to 65535: 99999999999999999999"),

@@ -159,8 +159,9 @@ fn place(k: &str) -> Result<usize, String> {
     }
 }
 
-fn sample([elec, temp, integrity]: [&str; 3]) -> Result<Sample, String> {
-    Ok((parsed(elec, "ELEC")?, parsed(temp, "TEMP")?, parsed(integrity, "an integrity byte")?))
+/// ELEC, TEMP or what stands in its place, and the integrity byte.
+fn sample([elec, second, integrity]: [&str; 3], kind: &str) -> Result<Sample, String> {
+    Ok((parsed(elec, "ELEC")?, parsed(second, kind)?, parsed(integrity, "an integrity byte")?))
 }
 
 /// A reading at each of four devices: `K K K K (ELEC TEMP INTEGRITY)x4`, in the order of the corners.
@@ -170,7 +171,8 @@ fn corners<C: Converter>(devices: &mut [C], words: &[&str]) -> Result<String, St
         return Err(format!("not four devices and four readings: {}", short(&words.join(" "))));
     };
     let places = [place(k[0])?, place(k[1])?, place(k[2])?, place(k[3])?];
-    let samples = [sample(s1)?, sample(s2)?, sample(s3)?, sample(s4)?];
+    let at = |words| sample(words, "TEMP");
+    let samples = [at(s1)?, at(s2)?, at(s3)?, at(s4)?];
     let corners = devices.get_disjoint_mut(places).map_err(|_| format!("a device twice: {}", k.join(" ")))?;
     if corners.iter().any(|device| **device == C::default()) {
         return Err(format!("a device that was not made: {}", k.join(" ")));
@@ -184,14 +186,18 @@ fn corners<C: Converter>(devices: &mut [C], words: &[&str]) -> Result<String, St
 fn found<C: Converter + Laboratory>(scenario: &mut Scenario<C>, words: &[&str]) -> Result<String, String> {
     let device = &mut scenario.devices[scenario.meant];
     // A record of zeros is no device, and nothing but a making may be given it.
-    if matches!(words, ["reading" | "frame", ..]) && *device == C::default() {
+    if matches!(words, ["reading" | "probe" | "frame", ..]) && *device == C::default() {
         return Err(format!("a device that was not made: {}", scenario.meant + 1));
     }
     Ok(match *words {
         ["make", sheet, station] => make(device, &bytes(sheet)?, parsed(station, "a station")?),
         ["reading", elec, temp, integrity] => {
-            let (elec, temp, integrity) = sample([elec, temp, integrity])?;
+            let (elec, temp, integrity) = sample([elec, temp, integrity], "TEMP")?;
             device.reading(elec, temp, integrity).to_string()
+        }
+        ["probe", elec, resistance, integrity] => {
+            let (elec, resistance, integrity) = sample([elec, resistance, integrity], "a resistance")?;
+            device.probe(elec, resistance, integrity).to_string()
         }
         ["corners", ref words @ ..] => corners(&mut scenario.devices, words)?,
         ["report"] => {
