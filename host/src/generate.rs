@@ -4,6 +4,7 @@ pub mod flags;
 pub mod laboratory;
 mod panel;
 mod platform;
+pub mod probe;
 
 use crate::{read_frame, sealed, write_frame, APPLY, FLAG, REGISTERS, RST};
 use laboratory::{identity, with_identity, Task};
@@ -218,6 +219,8 @@ pub fn float_bits(rng: &mut Rng) -> u32 {
 pub enum Call {
     Make(Vec<u8>, u8),
     Reading(Sample),
+    /// A reading by a probe: a resistance stands in the place of TEMP.
+    Probe(Sample),
     Report,
     /// A frame and the room for its reply.
     Frame(Vec<u8>, usize),
@@ -289,7 +292,8 @@ impl Calls {
             self.run = flags::run(rng).into_iter().map(Step::Flags).collect();
         }
         match rng.below(if quiet { 60 } else { 100 }) {
-            0..=54 => Call::Reading(sample(rng, d)),
+            0..=37 => Call::Reading(sample(rng, d)),
+            38..=54 => Call::Probe(probe::sample(rng, d)),
             55 => Call::Report,
             56..=59 if quiet => {
                 let register = rng.pick(&[22, 103, 104, 14, APPLY]);
@@ -300,6 +304,27 @@ impl Calls {
             _ => make(rng),
         }
     }
+}
+
+/// The next call, done on the model: the call, which device it was on, its number, and that device before it. A refused
+/// making leaves the device.
+#[cfg(test)]
+fn done(calls: &mut Calls, devices: &mut [Device; 4]) -> (Call, usize, u8, Device) {
+    use model::Converter;
+    let (call, at, _) = calls.next(devices, false);
+    let before = devices[at];
+    let number = match &call {
+        Call::Make(sheet, station) => devices[at].make(sheet, *station),
+        Call::Reading((elec, temp, integrity)) => Converter::reading(&mut devices[at], *elec, *temp, *integrity),
+        Call::Probe((elec, resistance, integrity)) => devices[at].probe(*elec, *resistance, *integrity),
+        Call::Weigh(samples) => Device::weigh(devices.each_mut(), *samples).0,
+        Call::Frame(frame, room) => devices[at].frame(frame, &mut vec![0; *room]).0,
+        Call::Report | Call::Sheets(_) => 0,
+    };
+    if number != 0 {
+        devices[at] = before;
+    }
+    (call, at, number, before)
 }
 
 /// A sheet of either form: some are good, most are damaged.

@@ -14,7 +14,7 @@ pub mod sheet;
 pub mod value;
 
 pub use bus::crc16;
-pub use device::{Device, Reading, REBOOT};
+pub use device::{fit, Device, Reading, REBOOT};
 pub use platform::{weigh, Sample, Weights};
 pub use sheet::{Contents, Figures, Identity};
 

@@ -1,17 +1,17 @@
-//! compare CALLS SEED: the same generated calls on the model and on the archive, with four devices each; then, on the
-//! archive, devices that are pulled beside those that are pushed.
+//! compare CALLS SEED: the same generated calls on the model and on the archive, with four devices each; then every
+//! resistance of a probe on both; then, on the archive, devices that are pulled beside those that are pushed.
 //!
 //! Compared: numbers, lengths, every byte of and around the lent buffers, report bits, weights, what a sheet holds, the
 //! whole record in steps, the waiting copy too, of each device that the call was on, a read of each register of 01 and
 //! of some of the panel's after each call, and that a refused call keeps the record, one of a platform all four (a
 //! refused making leaves zeros).
 
-use host::generate::flags;
 use host::generate::laboratory::{Reached, Task};
-use host::generate::{Call, Calls};
+use host::generate::{flags, probe, sheet, Call, Calls};
 use host::mirror::{self, Mirrored};
 use host::tool::{run, Failure};
 use host::{panel_registers, read_frame, Converter, Laboratory, Other, APPLY, REGISTERS, WITH_ARCHIVE};
+use model::probe::{LEAST, MOST};
 use model::sheet::{NEW, OLD};
 use model::{Contents, Figures, Refusal, Sample, Weights};
 use std::process::ExitCode;
@@ -64,6 +64,7 @@ fn perform<C: Converter + Laboratory>(devices: &mut [C; 4], at: usize, call: &Ca
             }
         }
         Call::Reading((elec, temp, integrity)) => o.number = device.reading(*elec, *temp, *integrity),
+        Call::Probe((elec, resistance, integrity)) => o.number = device.probe(*elec, *resistance, *integrity),
         Call::Report => {
             (o.number, o.report) = device.report();
             o.kept = *device == before;
@@ -134,6 +135,7 @@ fn describe(call: &Call) -> String {
     match call {
         Call::Make(sheet, station) => format!("make {sheet:02x?} {station}"),
         Call::Reading(sample) => format!("reading {sample:?}"),
+        Call::Probe(sample) => format!("probe {sample:?}"),
         Call::Report => "report".into(),
         Call::Frame(frame, room) => format!("frame {frame:02x?} {room}"),
         Call::Weigh(samples) => format!("weigh {samples:?}"),
@@ -150,8 +152,8 @@ fn arguments(words: &[String]) -> Option<(u64, u64)> {
 fn main() -> ExitCode {
     run("compare CALLS SEED", |words| {
         let (calls, seed) = arguments(words).ok_or(Failure::Usage)?;
-        let (same, mirrored) = (compare(calls, seed), pull(calls, seed));
-        Ok(same && mirrored)
+        let (same, swept, mirrored) = (compare(calls, seed), sweep(), pull(calls, seed));
+        Ok(same && swept && mirrored)
     })
 }
 
@@ -200,7 +202,7 @@ impl Reads {
 
 const CORNER_REFUSED: usize = Refusal::CornerRefused as usize;
 /// With 0, of accepted calls.
-const NUMBERS: usize = Refusal::Buffers as usize + 1;
+const NUMBERS: usize = Refusal::Probe as usize + 1;
 
 /// What the calls were.
 #[derive(Default)]
@@ -220,6 +222,7 @@ struct Seen {
     /// Makings of a first count of 4, of 2, and of another or none: accepted, and refused.
     made: [[u64; 2]; 3],
     resets: flags::Reached,
+    probes: probe::Reached,
     sheets: Reached,
 }
 
@@ -227,7 +230,7 @@ struct Seen {
 fn inputs(call: &Call, at: usize) -> [Option<i64>; 4] {
     let mut inputs = [None; 4];
     match call {
-        Call::Reading((elec, ..)) => inputs[at] = Some(*elec),
+        Call::Reading((elec, ..)) | Call::Probe((elec, ..)) => inputs[at] = Some(*elec),
         Call::Weigh(samples) => inputs = samples.map(|(elec, ..)| Some(elec)),
         _ => {}
     }
@@ -239,6 +242,7 @@ impl Seen {
         self.numbers[usize::from(number)] += 1;
         match call {
             Call::Weigh(samples) => self.weigh(samples, number, before),
+            Call::Probe(sample) => self.probes.add(at, sample, number, &before[at]),
             Call::Sheets(task) => self.sheets.add(task, number),
             Call::Make(sheet, _) => {
                 let form = [OLD, NEW].iter().position(|count| sheet.first() == Some(count)).unwrap_or(2);
@@ -257,6 +261,9 @@ impl Seen {
         for (at, input) in inputs(call, at).into_iter().enumerate() {
             if let Some(input) = input.filter(|_| number == 0) {
                 self.take(at, input, &before[at]);
+                if !matches!(call, Call::Probe(_)) {
+                    self.probes.turn(at, false, &before[at]);
+                }
             }
             self.flags |= after[at].flag;
             if after[at].last.is_none() {
@@ -299,6 +306,7 @@ impl Seen {
         println!("           {} jumped, {back} of them to near the held value", jumps + back);
         println!("FLAG bits seen {}; longest run of readings without start or RST {}", self.flags, self.longest);
         println!("{}", self.resets);
+        println!("{}", self.probes);
         let [one, two, three, four] = self.spoiled;
         println!("four corners: {} calls accepted, {} refused with 18", self.weighed, self.numbers[CORNER_REFUSED]);
         println!("              for corner 1 alone {one}, 2 {two}, 3 {three}, 4 {four}; for several {}", self.several);
@@ -306,6 +314,35 @@ impl Seen {
         println!("makings: of old sheets {old}; of new ones {new}; of neither {none}");
         println!("{}", self.sheets);
     }
+}
+
+const PAIR: &str = if WITH_ARCHIVE { "model and archive" } else { "model and itself (no archive linked)" };
+
+/// Resistances on either side of those that a probe call takes.
+const BEYOND: i64 = 5_000;
+
+/// Whether both take each resistance alike, in number and record: all that a probe call takes, and those about them.
+fn sweep() -> bool {
+    let made = || {
+        let (mut model, mut other) = <(model::Device, Other)>::default();
+        let sheet = sheet(&Figures::standard());
+        assert_eq!((model.make(&sheet, 1), other.make(&sheet, 1)), (0, 0));
+        (model, other)
+    };
+    let ((mut model, mut other), mut differences) = (made(), 0);
+    for resistance in LEAST - BEYOND..=MOST + BEYOND {
+        let (expected, found) = (model.probe(0, resistance, 0), other.probe(0, resistance, 0));
+        if expected != found || other.state() != model {
+            differences += 1;
+            if differences == 1 {
+                println!("DIFFERENCE at resistance {resistance}\n  model {expected} {model:?}");
+                println!("  other {found} {:?}", other.state());
+            }
+            (model, other) = made();
+        }
+    }
+    println!("{PAIR}: each resistance from {LEAST} to {MOST}, and {BEYOND} on either side, {differences} differences");
+    differences == 0
 }
 
 /// Whether no call differs.
@@ -341,9 +378,8 @@ fn compare(calls: u64, seed: u64) -> bool {
     }
 
     seen.print();
-    let pair = if WITH_ARCHIVE { "model and archive" } else { "model and itself (no archive linked)" };
     let panel = panel_registers().count();
     let reads = format!("{} registers of 01 and {PANEL_READS} of {panel} of Change 1", REGISTERS.len());
-    println!("{pair}: {calls} calls, each with reads of {reads}, {differences} differences");
+    println!("{PAIR}: {calls} calls, each with reads of {reads}, {differences} differences");
     differences == 0
 }

@@ -105,8 +105,7 @@ impl fmt::Display for Reached {
 #[cfg(test)]
 mod tests {
     use super::*;
-    use crate::generate::{Call, Calls};
-    use model::Converter;
+    use crate::generate::{done, Call, Calls};
 
     /// The generator is worth something: each edge comes up often, and every bit outlives RST and is cleared then.
     #[test]
@@ -114,27 +113,16 @@ mod tests {
         let (mut calls, mut devices, mut reached) = (Calls::new(7), <[Device; 4]>::default(), Reached::default());
         let (mut outlived, mut cleared) = (0, 0);
         for _ in 0..200_000 {
-            let (call, at, _) = calls.next(&devices, false);
-            let before = devices[at];
+            let (call, at, number, before) = done(&mut calls, &mut devices);
             let bits = reached.outlived[at];
             match call {
-                Call::Make(sheet, station) => {
-                    if devices[at].make(&sheet, station) == 0 {
-                        reached.make(at);
-                    } else {
-                        devices[at] = before;
-                    }
+                Call::Make(..) if number == 0 => reached.make(at),
+                Call::Frame(frame, _) if number == 0 && frame[1] == 16 => {
+                    reached.write(at, u16::from_be_bytes([frame[2], frame[3]]) / 2, &before, &devices[at]);
+                    outlived |= reached.outlived[at];
+                    cleared |= bits & !reached.outlived[at];
                 }
-                Call::Reading((elec, temp, integrity)) => _ = devices[at].reading(elec, temp, integrity),
-                Call::Weigh(samples) => _ = Device::weigh(devices.each_mut(), samples),
-                Call::Frame(frame, room) => {
-                    if devices[at].frame(&frame, &mut vec![0; room]).0 == 0 && frame[1] == 16 {
-                        reached.write(at, u16::from_be_bytes([frame[2], frame[3]]) / 2, &before, &devices[at]);
-                        outlived |= reached.outlived[at];
-                        cleared |= bits & !reached.outlived[at];
-                    }
-                }
-                Call::Report | Call::Sheets(_) => {}
+                _ => {}
             }
         }
         let Reached { raised, again, added, cleared: writes, left, between, .. } = reached;
