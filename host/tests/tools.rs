@@ -48,9 +48,9 @@ fn bad_usage() {
         (COMPARE, "compare CALLS SEED", &[&[], &["1"], &["1", "x"], &["0", "1"], &["-1", "1"], &["1", "x", "1"]]),
         (
             MEASURE,
-            "measure [default|full|corners|corners-full|read|write|figure|panel|apply|reset|exception|make|make-new|to-new|to-old \
-             N [model|archive]] (archive: only if linked)",
-            &[&["nosuch"], &["read"], &["nosuch", "1"], &["read", "0"], &["apply", "x"], &["read", "1", "x"]],
+            "measure [default|full|probe|probe-full|corners|corners-full|read|write|figure|panel|apply|reset|exception|make|\
+             make-new|to-new|to-old N [model|archive]] (archive: only if linked)",
+            &[&["nosuch"], &["probe"], &["read"], &["nosuch", "1"], &["read", "0"], &["apply", "x"], &["read", "1", "x"]],
         ),
         (BENCH, "bench < INPUT", &[&["file"]]),
     ];
@@ -134,6 +134,7 @@ fn malformed_lines() {
         ("reading x 0 0 = 0", "not ELEC: x"),
         ("reading 0 9223372036854775808 0 = 0", "not TEMP: 9223372036854775808"),
         ("reading 0 0 -1 = 0", "not an integrity byte: -1"),
+        ("probe 0 100.0 0 = 0", "not a resistance: 100.0"),
         ("frame zz 9 = 0", "not hexadecimal bytes: zz"),
     ];
     for (i, (line, wrong)) in table.into_iter().enumerate() {

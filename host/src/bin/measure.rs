@@ -6,15 +6,18 @@ use host::generate::{sheet, Rng};
 use host::tool::{run, Failure};
 use host::{read_frame, write_frame, Converter, Laboratory, Other, APPLY, RST, WITH_ARCHIVE};
 use model::panel::{Row, ROWS};
+use model::probe::{LEAST, MOST};
 use model::sheet::{most, LinearityPoint, TemperaturePoint, LONGEST_NEW, SCRATCH};
 use model::value::{scaled, Range, WHOLE};
 use model::{Figures, Identity, Sample};
 use std::hint::black_box;
 use std::{mem::size_of, process::ExitCode, time::Instant};
 
-const KINDS: [(&str, &str); 15] = [
+const KINDS: [(&str, &str); 17] = [
     ("default", "reading, default sheet"),
     ("full", "reading, full tables, filter on"),
+    ("probe", "reading by a probe, default sheet"),
+    ("probe-full", "reading by a probe, full tables, filter on"),
     ("corners", "four corners, default sheet"),
     ("corners-full", "four corners, full tables, filter on"),
     ("read", "read frame"),
@@ -30,8 +33,8 @@ const KINDS: [(&str, &str); 15] = [
     ("to-old", "moving it back"),
 ];
 const USAGE: &str = "\
-measure [default|full|corners|corners-full|read|write|figure|panel|apply|reset|exception|make|make-new|to-new|to-old \
-N [model|archive]] (archive: only if linked)";
+measure [default|full|probe|probe-full|corners|corners-full|read|write|figure|panel|apply|reset|exception|make|make-new|\
+to-new|to-old N [model|archive]] (archive: only if linked)";
 const STATION: u8 = 52;
 const IDENTITY: Identity = Identity { serial: 1_234_567, day: 9_816 };
 
@@ -77,7 +80,8 @@ fn frame(kind: &str, i: u16) -> Vec<u8> {
 /// The seconds that n calls of a kind took. All is done to the first of four devices, or to each.
 fn calls<C: Converter + Laboratory>(kind: &str, n: usize) -> f64 {
     let mut rng = Rng::new(1);
-    let figures = if matches!(kind, "full" | "corners-full" | "apply") { full() } else { Figures::standard() };
+    let figures =
+        if matches!(kind, "full" | "probe-full" | "corners-full" | "apply") { full() } else { Figures::standard() };
     let mut devices = [(); 4].map(|()| C::default());
     for device in &mut devices {
         assert_eq!(device.make(&sheet(&figures), STATION), 0);
@@ -85,12 +89,14 @@ fn calls<C: Converter + Laboratory>(kind: &str, n: usize) -> f64 {
     }
     let samples: Vec<Sample> =
         (0..1_024).map(|_| (rng.range(-9_000_000, 9_000_000), rng.range(-1_310_720, 3_932_160), 0)).collect();
+    let probed: Vec<Sample> = samples.iter().map(|(elec, ..)| (*elec, rng.range(LEAST, MOST), 0)).collect();
     let frames: Vec<Vec<u8>> = (0..1_024).map(|i| frame(kind, i)).collect();
     let old = sheet(&full());
     let new = with_identity(IDENTITY, &old);
     let start = Instant::now();
     let others = match kind {
         "default" | "full" => readings(&mut devices[0], samples.iter().cycle().take(n)),
+        "probe" | "probe-full" => probes(&mut devices[0], probed.iter().cycle().take(n)),
         "corners" | "corners-full" => weighings(&mut devices, samples.as_chunks().0.iter().cycle().take(n)),
         "make" => (0..n).filter(|_| devices[0].make(black_box(&old), STATION) != 0).count(),
         "make-new" => (0..n).filter(|_| devices[0].make(black_box(&new), STATION) != 0).count(),
@@ -107,6 +113,11 @@ fn calls<C: Converter + Laboratory>(kind: &str, n: usize) -> f64 {
 /// How many readings were refused.
 fn readings<'a, C: Converter>(device: &mut C, samples: impl Iterator<Item = &'a Sample>) -> usize {
     samples.filter(|(elec, temp, _)| device.reading(black_box(*elec), black_box(*temp), 0) != 0).count()
+}
+
+/// How many readings by a probe were refused.
+fn probes<'a, C: Converter>(device: &mut C, samples: impl Iterator<Item = &'a Sample>) -> usize {
+    samples.filter(|(elec, resistance, _)| device.probe(black_box(*elec), black_box(*resistance), 0) != 0).count()
 }
 
 /// How many calls of four readings were refused.
