@@ -88,7 +88,10 @@ impl Reached {
         self.entries.resize(TABLE.len(), 0);
         match TABLE.binary_search(&resistance) {
             Ok(entry) => self.entries[entry] += 1,
-            Err(next) => self.beside += u64::from(resistance == TABLE[next] - 1 || resistance == TABLE[next - 1] + 1),
+            Err(next) => {
+                let near = &TABLE[next.saturating_sub(1)..TABLE.len().min(next + 1)];
+                self.beside += u64::from(near.iter().any(|entry| (entry - resistance).abs() == 1));
+            }
         }
         self.ends[0] += u64::from(resistance == LEAST);
         self.ends[1] += u64::from(resistance == MOST);

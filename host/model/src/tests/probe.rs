@@ -33,13 +33,11 @@ fn entries_of_the_standard() {
     assert_eq!(TABLE.iter().step_by(10).map(|entry| (entry + 50) / 100).collect::<Vec<_>>(), printed);
 }
 
-/// The standard's own form of the formula, over f64: an entry is off by half of 0.0001 ohm at most, and none by just half.
+/// An entry is off by half of 0.0001 ohm at most, and none by just half.
 #[test]
 fn entries_fit_the_formula() {
     for (entry, t) in TABLE.iter().zip((-50..).map(f64::from)) {
-        let below_0 = if t < 0.0 { -4.183e-12 * (t - 100.0) * t.powi(3) } else { 0.0 };
-        let ohm = 100.0 * (1.0 + 3.9083e-3 * t - 5.775e-7 * t.powi(2) + below_0);
-        assert!((*entry as f64 - ohm * 1e4).abs() < 0.499, "{t}");
+        assert!((*entry as f64 - ohm(t) * 1e4).abs() < 0.499, "{t}");
     }
 }
 
@@ -62,6 +60,26 @@ fn temp_between_entries() {
         assert!(2 * (steps * width - UNIT * way).abs() < width, "{resistance}");
     }
     assert_eq!(at, 199);
+}
+
+/// The standard's own form of the formula, in ohm, over f64.
+fn ohm(t: f64) -> f64 {
+    let below_0 = if t < 0.0 { -4.183e-12 * (t - 100.0) * t.powi(3) } else { 0.0 };
+    100.0 * (1.0 + 3.9083e-3 * t - 5.775e-7 * t.powi(2) + below_0)
+}
+
+/// How far TEMP lies from where the formula has the resistance: at most 10.48 steps, and nowhere more than at 95.0956
+/// ohm. Nearby the formula is a line by far enough: its slope is taken over a ten-thousandth of a degree.
+#[test]
+fn temp_is_near_the_formula() {
+    let distance = |resistance: i64| {
+        let t = temp(resistance).unwrap() as f64 / UNIT as f64;
+        let slope = (ohm(t + 1e-4) - ohm(t - 1e-4)) / 2e-4;
+        (ohm(t) - resistance as f64 / 1e4) / slope * UNIT as f64
+    };
+    let farthest = resistances().max_by(|a, b| distance(*a).abs().total_cmp(&distance(*b).abs())).unwrap();
+    assert_eq!(farthest, 950_956);
+    assert!((10.47..10.48).contains(&distance(farthest)), "{}", distance(farthest));
 }
 
 /// A step of resistance is 16 to 18 steps of TEMP: it never falls, and never stays.
