@@ -1,5 +1,6 @@
 //! Where a simulated converter's readings come from: a built-in profile, or lines of text.
 
+use model::probe::{COLDEST, TABLE};
 use model::Sample;
 
 const STEPS: i64 = 65_536;
@@ -77,6 +78,12 @@ impl Profile {
     }
 }
 
+/// What a probe has at a TEMP from -50 to below 150 degrees, in 0.0001 ohm, to the nearest.
+pub fn resistance(temp: i64) -> i64 {
+    let (at, part) = ((temp.div_euclid(STEPS) - COLDEST) as usize, temp.rem_euclid(STEPS));
+    TABLE[at] + ((TABLE[at + 1] - TABLE[at]) * part + STEPS / 2) / STEPS
+}
+
 /// The value at a tick, in steps, over points that are run through again and again.
 fn along(points: &[(i64, i64)], tick: u64) -> i64 {
     let period = points[points.len() - 1].0;
@@ -86,7 +93,7 @@ fn along(points: &[(i64, i64)], tick: u64) -> i64 {
     STEPS * v1 + STEPS * (v2 - v1) * (at - t1) / (t2 - t1)
 }
 
-/// `ELEC TEMP INTEGRITY`, in decimal steps, N times.
+/// `ELEC TEMP INTEGRITY`, in decimal steps, N times; of a probe RESISTANCE stands in the place of TEMP.
 pub fn parsed<const N: usize>(line: &str) -> Option<[Sample; N]> {
     let words: Vec<&str> = line.split_whitespace().collect();
     let (samples, []) = words.as_chunks() else { return None };
@@ -144,6 +151,18 @@ mod tests {
         assert_eq!(Profile::Fill.reading(175), (50 * STEPS, 18 * STEPS + 350 * STEPS / 1_000, 0));
         assert_eq!(Profile::Fill.reading(312).0, 155 * STEPS);
         assert_eq!(Profile::Fill.reading(600), (0, 18 * STEPS + 1_200 * STEPS / 1_000, 0));
+    }
+
+    /// A step of resistance is up to 18 of TEMP, so that the nearest is within 9.
+    #[test]
+    fn a_probe_is_as_warm_as_the_air() {
+        let taken = |temp| model::probe::temp(resistance(temp)).expect("within the table");
+        for tick in 0..6_000 {
+            let (_, temp, _) = Profile::Fill.reading(tick);
+            assert!((taken(temp) - temp).abs() <= 9, "{tick}");
+        }
+        assert_eq!([-50, 0, 20, 149].map(|celsius| taken(celsius * STEPS) / STEPS), [-50, 0, 20, 149]);
+        assert_eq!([-50, 0, 100].map(|celsius| resistance(celsius * STEPS)), [803_063, 1_000_000, 1_385_055]);
     }
 
     #[test]

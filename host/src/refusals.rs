@@ -23,6 +23,7 @@ pub fn meaning(number: u8) -> &'static str {
         17 => "unfit copy: a sheet with the figures of the waiting copy would be refused",
         18 => "corner refused: one of the four readings would be 9, bad reading",
         19 => "buffers: the output or the scratch is too short",
+        20 => "probe: the resistance is below 803,063 or above 1,573,251, in 0.0001 ohm",
         _ => "no such number",
     }
 }

@@ -1,12 +1,14 @@
-//! What a simulator serves on its line: one device, or the four of a platform.
+//! What a simulator serves on its line: one device, with a probe beside its cell or without, or the four of a platform.
 
-use crate::readings::{parsed, Profile};
+use crate::readings::{parsed, resistance, Profile};
 use crate::refusals::meaning;
 use crate::Converter;
 use model::{Refusal, Sample, Weights};
 
 pub enum Served<C> {
     One(C),
+    /// With a probe beside its cell, whose resistance stands in the place of TEMP.
+    Probed(C),
     /// For corners 1 to 4, at stations one after another.
     Platform([C; 4]),
 }
@@ -15,6 +17,11 @@ impl<C: Converter> Served<C> {
     /// A device; or the number of the refusal.
     pub fn one(sheet: &[u8], station: u8) -> Result<Served<C>, u8> {
         made(sheet, station).map(Served::One)
+    }
+
+    /// A device with a probe; or the number of the refusal.
+    pub fn probed(sheet: &[u8], station: u8) -> Result<Served<C>, u8> {
+        made(sheet, station).map(Served::Probed)
     }
 
     /// Four devices, the first at this station; or the number of the refusal.
@@ -27,6 +34,10 @@ impl<C: Converter> Served<C> {
     pub fn follow(&mut self, profile: Profile, tick: u64, verbose: bool) -> Vec<String> {
         match self {
             Served::One(device) => take(device, profile.reading(tick)),
+            Served::Probed(device) => {
+                let (elec, temp, integrity) = profile.reading(tick);
+                probe(device, (elec, resistance(temp), integrity))
+            }
             Served::Platform(corners) => weigh(corners, profile.readings(tick), verbose),
         }
     }
@@ -38,6 +49,10 @@ impl<C: Converter> Served<C> {
                 Some([sample]) => take(device, sample),
                 None => vec![format!("not a reading (ELEC TEMP INTEGRITY): {text}")],
             },
+            Served::Probed(device) => match parsed(text) {
+                Some([sample]) => probe(device, sample),
+                None => vec![format!("not a reading by a probe (ELEC RESISTANCE INTEGRITY): {text}")],
+            },
             Served::Platform(corners) => match parsed(text) {
                 Some(samples) => weigh(corners, samples, verbose),
                 None => vec![format!("not four readings (ELEC TEMP INTEGRITY, for corners 1 to 4): {text}")],
@@ -48,7 +63,7 @@ impl<C: Converter> Served<C> {
     /// Answer a frame; gives its number in words, of a platform that of each corner it was for, and the length replied.
     pub fn answer(&mut self, frame: &[u8], reply: &mut [u8]) -> (String, usize) {
         match self {
-            Served::One(device) => {
+            Served::One(device) | Served::Probed(device) => {
                 let (number, length) = device.frame(frame, reply);
                 (in_words(number), length)
             }
@@ -68,6 +83,11 @@ fn made<C: Converter>(sheet: &[u8], station: u8) -> Result<C, u8> {
 fn take<C: Converter>(device: &mut C, (elec, temp, integrity): Sample) -> Vec<String> {
     let number = device.reading(elec, temp, integrity);
     refused("reading", &[(elec, temp, integrity)], number).into_iter().collect()
+}
+
+fn probe<C: Converter>(device: &mut C, (elec, resistance, integrity): Sample) -> Vec<String> {
+    let number = device.probe(elec, resistance, integrity);
+    refused("probe", &[(elec, resistance, integrity)], number).into_iter().collect()
 }
 
 fn weigh<C: Converter>(corners: &mut [C; 4], samples: [Sample; 4], verbose: bool) -> Vec<String> {
@@ -115,6 +135,33 @@ mod tests {
     const SYS: u16 = 20;
     const SZ: u16 = 44;
     const RST: u16 = 200;
+
+    /// Its TEMP and STAT.
+    fn temp(served: &Served<Device>) -> Option<(i64, u16)> {
+        let Served::Probed(device) = served else { panic!("no probe") };
+        device.last.map(|last| (last.temp, last.stat))
+    }
+
+    #[test]
+    fn a_line_has_a_resistance() {
+        let sheet = sheet(&Figures::standard());
+        let mut served = Served::<Device>::probed(&sheet, STATION).unwrap_or_else(|number| panic!("refused {number}"));
+        // At -50, 0 and 150 degrees; TEMPOR above 90.
+        for (line, due) in [("0 803063 0", (-50, 0)), ("0 1000000 0", (0, 0)), ("0 1573251 0", (150, 8))] {
+            assert_eq!((served.read(line, true), temp(&served)), (vec![], Some((due.0 << 16, due.1))));
+        }
+        for (line, number) in [("0 803062 0", 20), ("0 1573252 2", 20), ("19660801 1000000 0", 9)] {
+            assert_eq!(served.read(line, false), [format!("probe {line}: refused {number}, {}", meaning(number))]);
+        }
+        for line in ["1000000", "0 100.0 0", "0 1000000 0 0 1000000 0"] {
+            let said = format!("not a reading by a probe (ELEC RESISTANCE INTEGRITY): {line}");
+            assert_eq!(served.read(line, false), [said]);
+        }
+        assert_eq!(temp(&served), Some((150 << 16, 8)));
+        assert_eq!((served.follow(Profile::Still, 0, false), temp(&served)), (vec![], Some((20 << 16, 0))));
+        assert_eq!(served.answer(&read_frame(STATION, SYS), &mut [0; 9]), ("0 accepted".into(), 9));
+        assert_eq!(Served::<Device>::probed(&sheet, 248).err(), Some(8));
+    }
 
     fn platform() -> Served<Device> {
         Served::platform(&sheet(&Figures::standard()), STATION).unwrap_or_else(|number| panic!("refused {number}"))

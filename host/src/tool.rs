@@ -11,6 +11,8 @@ use std::{env, process::ExitCode};
 pub enum Failure {
     /// The arguments are none that it takes.
     Usage,
+    /// Why these arguments do not go together, in a sentence.
+    Misused(&'static str),
     /// What was wrong, in a sentence.
     Said(String),
 }
@@ -42,6 +44,7 @@ pub fn run(usage: &str, work: impl FnOnce(&[String]) -> Result<bool, Failure>) -
     let (said, status) = match work(&words) {
         Ok(right) => return ExitCode::from(u8::from(!right)),
         Err(Failure::Usage) => (format!("usage: {usage}"), 2),
+        Err(Failure::Misused(why)) => (why.into(), 2),
         Err(Failure::Said(said)) => (said, 1),
     };
     let _ = writeln!(io::stderr(), "{said}");

@@ -17,7 +17,9 @@ use std::time::Duration;
 
 const BAUD: u32 = 600;
 const STATION: u8 = 52;
+const STAT: u16 = 12;
 const SYS: u16 = 20;
+const TEMP: u16 = 22;
 const FLAG: u16 = 28;
 const SZ: u16 = 44;
 const PEAK: u16 = 48;
@@ -257,6 +259,35 @@ fn flags_outlive_rst() {
     assert_eq!(bus.exchange(&read_frame(STATION, FLAG)), flag(32_768.0));
 }
 
+/// Change 8 of paper 02: 138.5055 ohm are 100 degrees, which raises TEMPOR, 8; beyond the table nothing is taken.
+#[test]
+fn a_probe_beside_the_cell() {
+    let mut bus = Bus::with(&["52", "--readings", "-", "--probe"]);
+    bus.hand_in("6553600 1385055 0");
+    assert_eq!(bus.exchange(&read_frame(STATION, SYS)), HUNDRED);
+    assert_eq!(bus.exchange(&read_frame(STATION, TEMP)), HUNDRED);
+    assert_eq!(bus.exchange(&read_frame(STATION, STAT)), value([0x41, 0x00]));
+    for refused in ["0 1573252 0", "0 803062 2", "0 803063 2", "0 -0.0 0"] {
+        bus.hand_in(refused);
+    }
+    assert_eq!(bus.exchange(&read_frame(STATION, TEMP)), HUNDRED);
+    // -50 degrees, at which TEMPUR is not due.
+    bus.hand_in("0 803063 0");
+    assert_eq!(bus.exchange(&read_frame(STATION, TEMP)), value([0xc2, 0x48]));
+    assert_eq!(bus.exchange(&read_frame(STATION, STAT)), value([0, 0]));
+    let said = bus.said();
+    let starts =
+        ["probe 0 1573252 0: refused 20, probe", "probe 0 803062 2: refused 20", "probe 0 803063 2: refused 9"];
+    assert!(starts.iter().zip(&said).all(|(start, line)| line.starts_with(start)), "{said:?}");
+    assert_eq!((said.len(), said[3].starts_with("not a reading by a probe")), (4, true), "{said:?}");
+}
+
+#[test]
+fn a_profile_is_for_the_probe() {
+    let mut bus = Bus::with(&["52", "--probe", "--profile", "still"]);
+    assert_eq!(bus.exchange(&read_frame(STATION, TEMP)), value([0x41, 0xa0]));
+}
+
 #[test]
 fn exceptions_have_their_codes() {
     let mut bus = Bus::start();
@@ -454,6 +485,8 @@ fn what_is_turned_down_and_bad_usage() {
     // The last corner's station would be 248.
     let (code, said) = ended(&["default", "245", "--platform"]);
     assert_eq!((code, said.starts_with("refused 8\nstation: not 1 to 247")), (Some(1), true), "{said}");
+    let misused = "--probe is for one device: the call for four corners takes TEMP\n".to_string();
+    assert_eq!(ended(&["default", "52", "--probe", "--platform"]), (Some(2), misused));
     let wrong: [&[&str]; 9] = [
         &[],
         &["default"],
