@@ -1,7 +1,8 @@
 /* Make a device of the default sheet, take readings, and answer frames: what a board does all day; then load bad sheets
  * while it runs, which disturbs nothing; then calibrate it from the panel; then fill it slowly with the filter on; then
- * weigh a lorry on a platform of four; then push and pull a cell; then overload it and send RST. In one report the four
- * values differ, and in one weighing all eight, so that a header with their order changed does not pass. */
+ * weigh a lorry on a platform of four; then push and pull a cell; then overload it and send RST; then read a hot hopper
+ * by a probe. In one report the four values differ, and in one weighing all eight, so that a header with their order
+ * changed does not pass. */
 #include "converter.h"
 #include <inttypes.h>
 #include <stdio.h>
@@ -217,16 +218,23 @@ static void push_and_pull(converter_device *device)
     }
 }
 
-static void print_flag(const char *what, converter_device *device)
+/* What a read gives, where it is accepted. */
+static float read_value(converter_device *device, unsigned address)
 {
     uint8_t reply[9];
-    read_register(device, CONVERTER_REGISTER_FLAG, reply, sizeof reply);
+    read_register(device, address, reply, sizeof reply);
     uint32_t bits = (uint32_t)reply[5] << 24 | (uint32_t)reply[6] << 16 | (uint32_t)reply[3] << 8 | reply[4];
     float value;
     memcpy(&value, &bits, sizeof value);
-    unsigned flag = (unsigned)value;
-    printf("%s: FLAG %u%s%s%s\n", what, flag, flag & CONVERTER_FLAG_ECOMOR ? " ECOMOR" : "",
-           flag & CONVERTER_FLAG_CRAWOR ? " CRAWOR" : "", flag & CONVERTER_FLAG_REBOOT ? " REBOOT" : "");
+    return value;
+}
+
+static void print_flag(const char *what, converter_device *device)
+{
+    unsigned flag = (unsigned)read_value(device, CONVERTER_REGISTER_FLAG);
+    printf("%s: FLAG %u%s%s%s%s\n", what, flag, flag & CONVERTER_FLAG_TEMPOR ? " TEMPOR" : "",
+           flag & CONVERTER_FLAG_ECOMOR ? " ECOMOR" : "", flag & CONVERTER_FLAG_CRAWOR ? " CRAWOR" : "",
+           flag & CONVERTER_FLAG_REBOOT ? " REBOOT" : "");
 }
 
 /* Change 7 of paper 02. The default sheet; REBOOT of the start was seen and is cleared. The cell is overloaded, 155 %,
@@ -244,6 +252,24 @@ static void reset_after_overload(converter_device *device)
     print_flag("after RST", device);
     print_reply("write FLAG", write_register(device, CONVERTER_REGISTER_FLAG, 32768.0f, reply, sizeof reply), reply);
     print_flag("after the write", device);
+}
+
+/* Change 8 of paper 02. The default sheet, but for CT2 100 degrees and CTO2 10 %: 50 % show as 40 at 100 degrees. A
+ * Pt100 beside the cell has 100 ohm at 0 degrees, 109.7347 at 25 and 138.5055 at 100; the last resistance is beyond 150
+ * degrees, and nothing is taken. Above 90 degrees TEMPOR is raised. */
+static void read_hot_hopper(converter_device *device)
+{
+    static const int64_t resistance[] = {1000000, 1097347, 1385055, CONVERTER_MOST_RESISTANCE + 1};
+    uint8_t reply[16];
+    write_register(device, CONVERTER_REGISTER_CT + 2, 100.0f, reply, sizeof reply);
+    write_register(device, CONVERTER_REGISTER_CTO + 2, 10.0f, reply, sizeof reply);
+    print_reply("write APPLY", write_register(device, CONVERTER_REGISTER_APPLY, 0.0f, reply, sizeof reply), reply);
+    for (size_t i = 0; i < sizeof resistance / sizeof *resistance; i++) {
+        uint8_t number = converter_probe(device, 3276800, resistance[i], 0);
+        printf("probe %.4f ohm: %u, TEMP %.1f SYS %.1f\n", (double)resistance[i] / 10000, number,
+               read_value(device, CONVERTER_REGISTER_TEMP), read_value(device, CONVERTER_REGISTER_SYS));
+    }
+    print_flag("hot", device);
 }
 
 int main(void)
@@ -304,5 +330,8 @@ int main(void)
     put_figure(sheet, 9, 268435456);
     printf("good sheet: %u\n", load(&device, sheet, length, 52));
     reset_after_overload(&device);
+
+    printf("good sheet: %u\n", load(&device, sheet, length, 52));
+    read_hot_hopper(&device);
     return 0;
 }

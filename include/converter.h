@@ -1,7 +1,7 @@
 /* The converter of a load cell: readings, calibration sheet and Modbus RTU (paper 01), with calibration over the bus,
  * a filter level between samples, the four corners of a platform, halves of a step rounded away from zero, so that a
- * cell is pulled as it is pushed, sheets with an identity, and flags that outlive RST (paper 02, Changes 1, 2, 4, 5, 6
- * and 7), proved in Rattle.
+ * cell is pulled as it is pushed, sheets with an identity, flags that outlive RST, and readings by a platinum probe
+ * (paper 02, Changes 1, 2, 4, 5, 6, 7 and 8), proved in Rattle.
  *
  * Link the archive libboard.a (`rt staticlib board`, x86-64) for devices, and liblaboratory.a (`rt staticlib
  * laboratory`) for the calls on sheets, which firmware need not carry; either one alone, or both. There is no heap and
@@ -14,8 +14,8 @@
  *   output and scratch of a call overlap.
  * - The four records of converter_weigh are four different ones: no pointer is given twice, and no record overlaps
  *   another or the samples. Stations may be equal.
- * - A record that is handed to converter_reading, converter_report, converter_frame or converter_weigh is the device of
- *   an accepted converter_make, or a copy of such a record, changed by these calls alone.
+ * - A record that is handed to converter_reading, converter_probe, converter_report, converter_frame or converter_weigh
+ *   is the device of an accepted converter_make, or a copy of such a record, changed by these calls alone.
  * - Floats are in the default mode of IEEE 754. Round to nearest: in another mode a sent value beyond +-256, or a gain
  *   or gain adjustment beyond +-1/16, may differ in its last bit. No traps: a call may raise inexact and denormal.
  * Nothing else is asked: every byte and every number is taken, and what does not fit is refused with a number.
@@ -26,7 +26,8 @@
  * Symbols that libboard.a needs: memset. Symbols that liblaboratory.a needs: memcpy, memset. (The caller's compiler may
  * ask for memcpy, to assign a record.)
  * Bytes of stack of libboard.a, at most, return address and red zone included: converter_make 1536, and what memset
- * takes; converter_reading 128; converter_report 64; converter_frame 1536; converter_weigh 256.
+ * takes; converter_reading 128; converter_probe [[STACK]]; converter_report 64; converter_frame 1536; converter_weigh
+ * 256.
  * Bytes of stack of liblaboratory.a, likewise, and what memcpy and memset take: converter_judge_sheet 2048;
  * converter_read_sheet 3072; converter_write_sheet 1024; converter_move_to_new 2048; converter_move_to_old 2048. */
 #ifndef CONVERTER_H
@@ -44,7 +45,7 @@ extern "C" {
 
 /* Another MAJOR: code that was compiled with the older header must not be linked with this archive. */
 #define CONVERTER_VERSION_MAJOR 3
-#define CONVERTER_VERSION_MINOR 4
+#define CONVERTER_VERSION_MINOR 5
 #define CONVERTER_VERSION_PATCH 0
 
 /* Numbers of refusal; 0 is an accepted call. */
@@ -67,7 +68,14 @@ enum {
     CONVERTER_VALUE = 16,          /* wrong length, quantity or byte count, read-only, or an unfit value */
     CONVERTER_UNFIT_COPY = 17,     /* a sheet with the figures of the waiting copy would be refused */
     CONVERTER_CORNER_REFUSED = 18, /* any of a platform's four readings would be 9 */
-    CONVERTER_BUFFERS = 19         /* of a move: output or scratch too short */
+    CONVERTER_BUFFERS = 19,        /* of a move: output or scratch too short */
+    CONVERTER_PROBE = 20           /* a probe's resistance is below the least or above the most */
+};
+
+/* The resistances that converter_probe takes, in 0.0001 ohm: of a Pt100 at -50 degrees, and at 150. */
+enum {
+    CONVERTER_LEAST_RESISTANCE = 803063,
+    CONVERTER_MOST_RESISTANCE = 1573251
 };
 
 /* The first count of a sheet: 4 of the old form, 2 of the new one, which has a serial and a day in front. */
@@ -227,6 +235,11 @@ converter_outcome converter_make(const uint8_t *sheet, size_t length, uint8_t st
 /* A reading: ELEC in steps of a percent, TEMP in steps of a degree, and 0 (sound) or 1 (fault).
  * Answers 0; or 9, and the record is as it was. */
 uint8_t converter_reading(converter_device *device, int64_t elec, int64_t temp, uint8_t integrity);
+
+/* A reading with a platinum probe, a Pt100, beside the cell: its resistance, in 0.0001 ohm, stands in the place of
+ * TEMP, which comes of it by IEC 60751, from -50 to 150 degrees. All else is as by converter_reading, and the two may
+ * take turns. Answers 0; or 20, then 9 for ELEC or the integrity byte, and the record is as it was. */
+uint8_t converter_probe(converter_device *device, int64_t elec, int64_t resistance, uint8_t integrity);
 
 /* SYS, PEAK, TROF and CELL. Answers 0; or 10. The record is as it was. */
 converter_reported converter_report(const converter_device *device);
