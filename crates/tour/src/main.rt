@@ -1,9 +1,9 @@
 // The library by example: a sheet is written and read back by its cursor, a device is made of it, takes two readings, serves frames and
-// gives reports, and is calibrated from the panel; four weigh a lorry. Each call prints a line: what was called, its number, and what it gave. The device that
-// a call gives back is handed to the next.
+// gives reports, is calibrated from the panel, and reads a hot hopper by its probe; four weigh a lorry. Each call prints a line: what was
+// called, its number, and what it gave. The device that a call gives back is handed to the next.
 ghost use Rattle.figures.specs.Default.{defaultSheet};
 ghost use Rattle.sheet.specs.Write.{sheetBytes};
-ghost use Rattle.converter.specs.Call.{reading, frame};
+ghost use Rattle.converter.specs.Call.{reading, frame, probe};
 ghost use Rattle.converter.specs.Reached.{Reached, Making};
 ghost use Rattle.tour.specs.Next.{Next};
 
@@ -35,7 +35,8 @@ fn go_through(device: Device)
     print_report(b"with a reading", next);
     next = restart(next);
     next = calibrate(next);
-    set_copy_back(next);
+    next = set_copy_back(next);
+    read_hot_hopper(next);
 }
 
 // A device of the default sheet, at station 52. The buffer has room for the longest sheet.
@@ -173,6 +174,18 @@ fn set_copy_back(device: Device) -> Device
     send(next, b"read CGAI", b"\x34\x03\x00\x50\x00\x02\xc1\xbf")
 }
 
+// 50 %, and 138.5055 ohm of a platinum probe: TEMP (11) is 100 °C. A probe that is torn off has no resistance in the table, and the
+// reading before it stands (02, Change 8).
+fn read_hot_hopper(device: Device) -> Device
+    requires { ⌜ Reached device ⌝ }
+    ensures { λ r. ⌜ Reached r ⌝ }
+{
+    let mut next = take_probe(device, b"138.5055 ohm", 3_276_800, 1_385_055, 0);
+    next = send(next, b"read TEMP", b"\x34\x03\x00\x16\x00\x02\x20\x6a");
+    next = take_probe(next, b"torn off", 3_276_800, 9_223_372_036_854_775_807, 0);
+    send(next, b"read TEMP", b"\x34\x03\x00\x16\x00\x02\x20\x6a")
+}
+
 // A reading of ELEC and TEMP, in steps, and the integrity byte.
 fn take_reading(device: Device, what: &[u8], elec: i64, temp: i64, integrity: u8) -> Device
     requires { ⌜ Reached device ⌝ }
@@ -180,6 +193,17 @@ fn take_reading(device: Device, what: &[u8], elec: i64, temp: i64, integrity: u8
 {
     let outcome = device.reading(elec, temp, integrity);
     lines::print_call(b"reading", what, outcome.number);
+    lines::end_line();
+    outcome.device
+}
+
+// A reading of ELEC, in steps, the resistance of a platinum probe, in 0.0001 ohm, and the integrity byte.
+fn take_probe(device: Device, what: &[u8], elec: i64, resistance: i64, integrity: u8) -> Device
+    requires { ⌜ Reached device ⌝ }
+    ensures { λ r. ⌜ Next device (probe elec resistance integrity) r ⌝ }
+{
+    let outcome = device.probe(elec, resistance, integrity);
+    lines::print_call(b"probe", what, outcome.number);
     lines::end_line();
     outcome.device
 }
