@@ -1,5 +1,4 @@
 -- Where the values of a table never fall, `interpolated` never falls either. Assumes nothing.
-use mathlib.Core.Path.{_≡_}
 use mathlib.Core.Bool.{cond}
 use mathlib.Core.List.{List, [], _∷_}
 use Prim.Native.Nat.{ℕ}
@@ -8,7 +7,7 @@ use lib.IntN.{ℤ, pos, _-ℤ_, _*ℤ_}
 use lib.Signed.{leZ, _≤ℤ_, _<ℤ_, ≤ℤ-refl, <ℤ-≤ℤ-trans}
 use Rattle.integers.proofs.Parts.{le-parts}
 use Rattle.integers.proofs.Difference.{⟨_⟩, _⊕_, _⊝_, _⊗_, le! }
-use Rattle.integers.proofs.Order.{pick, le-yes, le-no, no-le, product, gap-pos, ≤-trans, <-≤}
+use Rattle.integers.proofs.Order.{pick, le-yes, le-no, no-le, product, gap-pos, ≤-trans}
 use Rattle.arithmetic.specs.Round.{roundDiv}
 use Rattle.arithmetic.specs.Table.{Point, column, place, between, interpolated}
 use Rattle.arithmetic.specs.Keeps.{Neighbours, Rising}

@@ -36,7 +36,7 @@ use Rattle.modbus.specs.Reply.{silent, unlessSilent, writeReply, exceptionCode,
 use Rattle.modbus.proofs.Replies.{length-framed, value-fits, write-fits, exception-fits}
 use Rattle.modbus.specs.declared.frame.Frame.{Frame}
 use Rattle.modbus.specs.declared.frame.Frame.the-variants.{Write, Act}
-use Rattle.state.specs.Reading.{badReading, stateAfterReading}
+use Rattle.state.specs.Reading.{badReading}
 use Rattle.in_force.specs.InForce.{withFigures, withCopy, zeroSteps, offered, copyFits, applied, setupWritten, setupActed, setupBy}
 use Rattle.state.specs.Request.{flagWhole, acted, flagged, stateBy, restarted, snapped, peaksAt, peaksReset}
 use Rattle.answers.specs.Register.{stepsAt, readingFloat, readingAt, registerAt, answerOf, onCopy, numberOf}

@@ -1,26 +1,26 @@
 -- A reading by the probe (Change 8) has the properties of specs/Probes.antt. Assumes nothing.
-use mathlib.Core.Path.{_≡_, refl, sym, subst, _∙_, ap}
+use mathlib.Core.Path.{_≡_, refl, sym, _∙_}
 use mathlib.Core.Bool.{Bool, true, false, cond}
 use mathlib.Core.List.{List, [], _∷_, _++_}
 use mathlib.Core.Logic.{_↔_}
 use mathlib.Core.Option.{Option}
 use Prim.Native.Nat.{ℕ}
 use native.Mathlib.Omega.{arith}
-use lib.IntN.{ℤ, pos, negℤ}
-use lib.Signed.{_≤ℤ_, clashℤ}
+use lib.IntN.{ℤ}
+use lib.Signed.{clashℤ}
 use Rattle.integers.proofs.Order.{≤-trans}
 use Rattle.probe.specs.Probe.{isBeyond, tempOf}
 use Rattle.probe.specs.Pt100.{Beyond, InRange}
 use Rattle.probe.proofs.Pt100.{pt100}
 use Rattle.state.specs.Reading.{badReading}
-use Rattle.state.specs.BadReading.{Bad, Good}
+use Rattle.state.specs.BadReading.{Bad}
 use Rattle.state.specs.BadReading as bad
 use Rattle.state.proofs.BadReading.{bad-readings}
-use Rattle.converter.specs.Call.{Call, reading, frame, report, corner, probe, afterSample, afterCall, run, sampleNumber, number}
+use Rattle.converter.specs.Call.{Call, reading, frame, report, corner, probe, afterSample, afterCall, run, number}
 use Rattle.converter.specs.Log.{Log, noteSample, note, noted}
 use Rattle.converter.specs.Corners.{Same}
 use Rattle.converter.specs.Snapshot.{shot, shots}
-use Rattle.converter.specs.Probes.{BadBesideTemp, elecUnder, elecOver, integrityOver, asReading, asReadings, Probes}
+use Rattle.converter.specs.Probes.{BadBesideTemp, elecUnder, elecOver, integrityOver, asReadings, Probes}
 use Rattle.converter.specs.declared.Device.{Device}
 
 -- ---- one call

@@ -3,25 +3,25 @@ use mathlib.Core.Path.{_≡_, refl, sym, subst, _∙_, ap}
 use mathlib.Core.Bool.{Bool, true, false, true≢false}
 use mathlib.Core.List.{List, [], _∷_}
 use mathlib.Core.Logic.{_↔_}
-use Prim.Native.Nat.{ℕ, zero, suc, _<_, _^_}
+use Prim.Native.Nat.{ℕ, zero, suc, _<_}
 use native.Mathlib.Omega.{arith}
 use lib.IntN.{ℤ, pos, negsuc, negℤ, _+ℤ_, _-ℤ_, _*ℤ_}
 use lib.ListN.{length, getD}
-use lib.Signed.{ltZ, leZ, _≤ℤ_, _<ℤ_, clashℤ, <ℤ-≤ℤ-trans}
+use lib.Signed.{ltZ, _≤ℤ_, _<ℤ_, clashℤ, <ℤ-≤ℤ-trans}
 use Rattle.integers.proofs.Parts.{le-parts, lt-parts}
-use Rattle.integers.proofs.Difference.{⟨_⟩, _⊕_, _⊝_, _⊗_, nat, minus, eq!, le!, le?}
-use Rattle.integers.proofs.Order.{lt-yes, lt-no, yes-lt, no-lt, gap-pos, <-≤}
+use Rattle.integers.proofs.Difference.{⟨_⟩, _⊕_, _⊝_, _⊗_, nat, eq!, le!, le?}
+use Rattle.integers.proofs.Order.{lt-yes, lt-no, no-lt, gap-pos}
 use Rattle.integers.proofs.Ring.{ring, polynomials}
 use Rattle.arithmetic.specs.Round.{roundDiv, Nearest}
 use Rattle.arithmetic.specs.Fraction.{_over_}
 use Rattle.arithmetic.specs.Table.{Point, column, place}
-use Rattle.arithmetic.specs.Keeps.{Each, Neighbours, Rising}
+use Rattle.arithmetic.specs.Keeps.{Each, Rising}
 use Rattle.arithmetic.proofs.Round.{round-nearest}
 use Rattle.arithmetic.proofs.Table.{Between, interpolated-at, interpolated-hull}
 use Rattle.arithmetic.proofs.Climb.{Climbing, interpolated-climbs}
 use Rattle.probe.specs.Platinum.{quadratic, fourthPower, formula, entry, degree, points, platinum}
 use Rattle.probe.specs.Probe.{isBeyond, tempOf}
-use Rattle.probe.specs.Pt100.{Measures, above, below, celsius, resistanceAt, Table, Temp, Beyond, tooLow, tooHigh, InRange, Pt100}
+use Rattle.probe.specs.Pt100.{Measures, above, below, celsius, resistanceAt, Table, Beyond, tooLow, tooHigh, InRange, Pt100}
 use Rattle.probe.proofs.Platinum.{platinum-rises}
 use Rattle.probe.proofs.Table.{length-is, point-is, temp-between}
 

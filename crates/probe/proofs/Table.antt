@@ -2,19 +2,19 @@
 -- neighbours that have the resistance between them. Assumes nothing.
 use mathlib.Core.Path.{_≡_, refl, sym, subst, _∙_, ap}
 use mathlib.Core.List.{List, [], map}
-use Prim.Native.Nat.{ℕ, suc, _<_, _≤_, _^_}
+use Prim.Native.Nat.{ℕ, suc, _<_, _^_}
 use native.Mathlib.Omega.{arith}
-use lib.IntN.{ℤ, pos, negℤ, natAbs, _+ℤ_, _-ℤ_, _*ℤ_}
+use lib.IntN.{ℤ, pos, negℤ, _+ℤ_, _-ℤ_, _*ℤ_}
 use lib.ListN.{length, getD, List·getD-map}
 use lib.Signed.{_≤ℤ_, _<ℤ_}
 use mir.Syntax.{w64}
 use mir.Val.{SFits, toZ, ofZ}
 use mir.ValLaws.{toZ-pos}
 use Rattle.integers.specs.Within.{_within_}
-use Rattle.integers.proofs.Difference.{⟨_⟩, _⊕_, _⊝_, _⊗_, nat, minus, eq! }
+use Rattle.integers.proofs.Difference.{_⊕_, _⊝_, _⊗_, nat, minus, eq! }
 use Rattle.integers.proofs.Machine.{known, literal, sum, stored, fits, plain, i64s}
 use Rattle.integers.proofs.Order.{yes-le, no-le}
-use Rattle.arithmetic.specs.Table.{Point, column, place, line, between, interpolated}
+use Rattle.arithmetic.specs.Table.{column, place, line, between}
 use Rattle.arithmetic.specs.ForCode.{Segment}
 use Rattle.arithmetic.proofs.Table.{interpolated-past}
 use Rattle.arithmetic.proofs.Segment.{each-at, at-first, at-last, at-between}

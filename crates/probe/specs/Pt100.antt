@@ -10,7 +10,7 @@ use lib.ListN.{length, getD}
 use lib.Signed.{_≤ℤ_, _<ℤ_}
 use Rattle.arithmetic.specs.Round.{Nearest}
 use Rattle.arithmetic.specs.Fraction.{Fraction, _over_, whole, _+F_, _-F_, _*F_}
-use Rattle.arithmetic.specs.Table.{column, place}
+use Rattle.arithmetic.specs.Table.{place}
 use Rattle.probe.specs.Platinum.{formula, platinum}
 use Rattle.probe.specs.Probe.{isBeyond, tempOf}
 

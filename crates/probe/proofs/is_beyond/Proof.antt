@@ -1,5 +1,4 @@
 -- `is_beyond` meets its contract, test by test. Assumes nothing.
-use mathlib.Core.Path.{_≡_}
 use mir.ValLaws.{toZ-ofZ}
 use Rattle.probe.specs.Probe.{isBeyond}
 use Rattle.probe.proofs.is_beyond.Statement.{statement}

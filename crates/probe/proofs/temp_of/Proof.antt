@@ -3,14 +3,13 @@
 use mathlib.Core.Path.{_≡_, refl, sym, _∙_, ap}
 use Prim.Native.Nat.{ℕ, suc, _+_, _-_, _/_, _<_, _≤_}
 use native.Mathlib.Omega.{arith}
-use lib.IntN.{ℤ, pos}
 use lib.Signed.{_≤ℤ_, _<ℤ_}
 use mir.Syntax.{w64}
-use mir.Val.{toZ, ofZ}
-use mir.ValLaws.{toZ-ofZ, toZ-pos}
+use mir.Val.{toZ}
+use mir.ValLaws.{toZ-ofZ}
 use borrow.Author.Needs.{needs}
 use Rattle.integers.specs.Within.{_within_}
-use Rattle.integers.proofs.Machine.{held, fits, plain, i64s}
+use Rattle.integers.proofs.Machine.{held, fits, i64s}
 use Rattle.integers.proofs.Order.{le-yes, le-no, lt-yes, lt-no}
 use Rattle.arithmetic.specs.Round.{roundDiv, roundMagnitude}
 use Rattle.probe.specs.Platinum.{formula, entry, platinum}
