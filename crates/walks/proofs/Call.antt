@@ -4,9 +4,9 @@ use mathlib.Core.Bool.{Bool, true, false, not}
 use mathlib.Core.List.{List, [], ◌∷◌}
 use Prim.Native.Nat.{ℕ, suc, ◌+◌, ◌-◌, ◌^◌}
 use seplogic.Ra.Ura.{Ura}
-use seplogic.Ra.TreeShare.{full_share}
+use base.Fraction.{full_share}
 use lib.Dec.{T as Holds, eqb, ltb, eqb→eq}
-use mir.Syntax.{Name, Ty, Width, Opd as Operand, Body, place, copy, int, int_neg, int_big, float, opd_true, opd_false, opd_unit, ptr_const, seq, call}
+use mir.Syntax.{Callee as Name, Ty, Width, Opd as Operand, Body, place, copy, int, int_neg, int_big, float, opd_true, opd_false, opd_unit, ptr_const, size_of, align_of, num_of, fn_addr, vtable, seq, call}
 use mir.Val.{Val, vint, vbool, bits, WT, has_ty}
 use base.Logic.{SProp, ent, emp, sep, id⊢, via, emp∗, mono∗}
 use base.Fml.{fat, froom}
@@ -159,6 +159,11 @@ is-flag opd_true b = b
 is-flag opd_false b = not b
 is-flag opd_unit b = false
 is-flag (ptr_const n) b = false
+is-flag (size_of τ) b = false
+is-flag (align_of τ) b = false
+is-flag (num_of w τ) b = false
+is-flag (fn_addr f s) b = false
+is-flag (vtable τ ss) b = false
 
 module _ {M : Type 1} {𝓤 : Ura M} {𝓛 : Logic 𝓤} {K : Type 0} {Γ : List (Item 𝓤)} {E : Env 𝓤 𝓛.H} where
   flagged : K → (b : Bool) (x : Operand) → Holds (is-flag x b) → Opd K 𝓛 Γ E x (vbool b)
@@ -173,6 +178,11 @@ module _ {M : Type 1} {𝓤 : Ura M} {𝓛 : Logic 𝓤} {K : Type 0} {Γ : List
   flagged t false opd_false is = false_lit t
   flagged t b opd_unit is = absurd is
   flagged t b (ptr_const n) is = absurd is
+  flagged t b (size_of τ) is = absurd is
+  flagged t b (align_of τ) is = absurd is
+  flagged t b (num_of w τ) is = absurd is
+  flagged t b (fn_addr f s) is = absurd is
+  flagged t b (vtable τ ss) is = absurd is
 
   -- that it is b is what is to be shown
   pub flag : K → (b : Bool) {x : Operand} → Holds (is-flag x b) → Opd K 𝓛 Γ E x (vbool b)

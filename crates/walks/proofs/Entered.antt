@@ -1,7 +1,7 @@
 -- From a walk of a function's MIR to its contract, where the functions that it calls meet theirs. Assumes nothing.
 use mathlib.Core.List.{List}
 use seplogic.Ra.Ura.{Ura}
-use mir.Syntax.{Name, Fn}
+use mir.Syntax.{Callee as Name, Fn}
 use prog.Model.{Model}
 use prog.Routine.{Env}
 use prog.Wp.{Calls, Loops, WpFn, Closed}
