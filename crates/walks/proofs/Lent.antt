@@ -3,7 +3,7 @@ use Prim.Native.Nat.{ℕ}
 use mathlib.Core.List.{List, [], ◌∷◌}
 use lib.ListN.{length}
 use seplogic.Ra.Ura.{Ura}
-use mir.Syntax.{named}
+use mir.Syntax.{named, w8}
 use mir.Val.{Val}
 use base.Logic.{ent, emp}
 use base.Fml.{GName, Lft, Share, ftrue, flft, fobs, fbor}
@@ -13,7 +13,8 @@ use types.SemTy.{Body}
 use denote.RattleType.{RattleType, owns}
 use denote.Builtin.{u8}
 use denote.Memory.{mem}
-use denote.Ref.{Bor, MutBor}
+use denote.Plain.{uint_row_laws}
+use denote.Ref.{Bor, MutBor, as_bor}
 use denote.Slice.{slice_val, MutSlice, ShrSlice, shr_slice_copy}
 use denote.Steps.{nothing}
 
@@ -30,8 +31,8 @@ abbrev pub bytes : {M : Type 1} (𝓤 : Ura M) → Lft → Bor (List ℕ) → It
 bytes 𝓤 κ x = ‵ ((ShrSlice (named 0) κ u8).own_val x (slice x ∷ []))
 
 -- bytes to be read and bytes to be written, lent for their lifetimes
-abbrev pub lent : {M : Type 1} (𝓤 : Ura M) (κ₁ κ₂ : Lft) (q₁ q₂ : Share) (xs ys : MutBor (List ℕ)) → List (Item 𝓤)
-lent 𝓤 κ₁ κ₂ q₁ q₂ xs ys = (token 𝓤 κ₁ q₁ ⊛ token 𝓤 κ₂ q₂) ∷ bytes 𝓤 κ₁ xs ∷ ‵ ((MutSlice (named 1) κ₂ u8).own_val ys (slice ys ∷ [])) ∷ []
+abbrev pub lent : {M : Type 1} (𝓤 : Ura M) (κ₁ κ₂ : Lft) (q₁ q₂ : Share) (xs : Bor (List ℕ)) (ys : MutBor (List ℕ)) → List (Item 𝓤)
+lent 𝓤 κ₁ κ₂ q₁ q₂ xs ys = (token 𝓤 κ₁ q₁ ⊛ token 𝓤 κ₂ q₂) ∷ bytes 𝓤 κ₁ xs ∷ ‵ ((MutSlice (named 1) κ₂ u8).own_val ys (slice (as_bor ys) ∷ [])) ∷ []
 
 -- a value of type R at (b, o), lent for a lifetime by a `&mut`
 abbrev pub lent-record : {M : Type 1} (𝓤 : Ura M) (R : RattleType) → Lft → Share → ℕ → ℕ → GName → R.Denot → List (Item 𝓤)
@@ -42,5 +43,5 @@ module _ {M : Type 1} {𝓤 : Ura M} (𝓛 : Logic 𝓤) (κ : Lft) (q : Share) 
   pub lends : ent 𝓤 (⋆ 𝓛 (token 𝓤 κ q ∷ bytes 𝓤 κ s ∷ [])) (mean 𝓛 (((token 𝓤 κ q ⊛ ‵ (owns (ShrSlice (named 0) κ u8 ∷ []) (s, tt) (slice s ∷ [], tt))) ⊛ raw (emp 𝓤)) ⊛ bytes 𝓤 κ s))
   lends =
       qed 𝓛 (token 𝓤 κ q ∷ bytes 𝓤 κ s ∷ []) ∵ move ! (1 ∷ []) $
-      use1 𝓛 (bytes 𝓤 κ s ⊛ bytes 𝓤 κ s) ((shr_slice_copy 𝓛 (named 0) κ u8).twice s (slice s ∷ [])) $ split ! $
+      use1 𝓛 (bytes 𝓤 κ s ⊛ bytes 𝓤 κ s) ((shr_slice_copy 𝓛 (named 0) κ u8 (uint_row_laws w8)).twice s (slice s ∷ [])) $ split ! $
       nothing ! $ move ! (1 ∷ 0 ∷ []) $ fjoin ! $ move ! (2 ∷ 0 ∷ []) $ join ! $ nothing ! $ move ! (1 ∷ 0 ∷ []) $ join ! $ frame ! $ done !
