@@ -18,8 +18,9 @@
 --    `Lendable`, with its machine values shut, so that they are compared by name; then
 --        opens-record, closes-record     the borrow behind a `&mut` is opened, which gives the record's cell, and closed at another value
 --        gives-record                    it is closed, and given up for good; of one that was never opened, leaves-record
---        looks-into, looks-away          one behind a `&` is looked into, which gives a share of its cell, and no longer
---        copies, copies-of, stores       a part of the cell, or of a local, is copied into a local, or stored; `Inside` tells a part, by the
+--        sees-into, sees-away            one behind a `&` is looked into, which gives a share of its cell, and no longer
+--        looks-into, looks-away          so is one of which shares are lent, by a fractured borrow
+--        copies, copies_of, stores       a part of the cell, or of a local, is copied into a local, or stored; `Inside` tells a part, by the
 --                                        steps to it
 --    `sub_in` finds a field of a struct whose type is told by an equation.
 --

@@ -3,22 +3,26 @@ use mathlib.Core.Path.{◌≡◌, sym, subst}
 use mathlib.Core.List.{List, [], ◌∷◌}
 use Prim.Native.Nat.{ℕ}
 use seplogic.Ra.Ura.{Ura}
-use seplogic.Ra.TreeShare.{full_share}
+use base.Fraction.{full_share}
 use lib.Dec.{T as Holds}
 use mir.Raw.{raw as raw_ty}
 use mir.Syntax.{Ty, Step as PlaceStep, deref, place, copy, rv_opd, seq, assign, Body as Code}
 use mir.Val.{Val, vptr, WT, has_ty}
-use base.Fml.{GName, Lft, Share, Fml, ftrue, fat, flft, fobs, fauth, fbor, fobor, fres, fshr_bor}
+use base.Fml.{GName, Lft, Share, Fml, ftrue, fsep, fat, flft, fobs, fauth, fbor, fobor, fres, fshr_bor}
+use base.Share as Parted
+use base.Share.{halves}
 use base.Stored.{Gv}
 use prog.Wp.{Env, Calls, Loops, spot_of}
 use types.Logic.{Logic}
-use types.Kit.{Item, ‵, ◌⊛◌, nth, put, Goal, Soaks, Post, runs, Seq, Step, step, ◌$◌, move, drop, use1, join}
+use types.Kit.{Item, ‵, ◌⊛◌, nth, put, Goal, Soaks, Post, runs, Seq, Step, step, ◌$◌, move, drop, use1, join, fsplit, fjoin, fpick, fpack}
 use types.Run.{Reads, Writes, Walks, stop, hop, from, load, of_opd, assigns}
 use types.Part.{Part, look_in, store_in}
+use types.Tokens.{obor_close, shr_bor_dup, shr_bor-open}
 use types.SemTy.{Body}
 use denote.RattleType.{RattleType}
 use denote.Laws.{Is, Tells, Makes, Copy, shows}
-use denote.Memory.{mem, cell_at, part_at}
+use denote.Memory.{mem, cell_at, part_of, part_at, hidden_shr, share_laws}
+use denote.Opens.{Opens, Shut}
 use denote.Steps.{opens, closes, looks, shuts, peeks, owned, facts, nothing}
 use denote.Struct.Steps.{spelt}
 
@@ -66,21 +70,45 @@ module _ {M : Type 1} {𝓤 : Ura M} {𝓛 : Logic 𝓤} {K : Type 0} {Γ : List
   pub leaves-record : K → Soaks G → (b o : ℕ) (d : R.row.Denot) → Step K 𝓛 (‵ (fres γ (R.row.coded.code d)) ∷ (‵ (flft κ q) ⊛ ‵ ftrue) ∷ Γ) G (‵ (fobs γ (R.row.coded.code d)) ∷ ‵ (fbor κ (Body (mem R.row) b o γ)) ∷ ‵ (flft κ q) ∷ Γ) G
   leaves-record t z b o d = step (λ s. opens-record t z {b = b} {o = o} d (λ is. gives-record t z d is $ s))
 
+module _ {M : Type 1} {𝓤 : Ura M} {𝓛 : Logic 𝓤} {K : Type 0} {Γ : List (Item 𝓤)} {G : Goal 𝓤 𝓛.H} (R : Lendable) where
+  -- a record that lies somewhere is its cell with what its type owns; and back
+  lies : K → {b o : ℕ} (s : Share) (d : R.row.Denot) (vs : List Val)
+      → (Known R d → Seq K 𝓛 (‵ (fat s R.mir b o (R.mach d)) ∷ ‵ (R.row.own_val d (R.mach d ∷ [])) ∷ Γ) G)
+      → Seq K 𝓛 (‵ (cell_at s R.row.mir vs b o) ∷ ‵ (R.row.own_val d vs) ∷ Γ) G
+  lies t {b} {o} s d vs k =
+      spelt t R.row (Is R.row) (shows 𝓛 R.row) (λ e. R.mach e ∷ []) R.tells s d vs b o $
+      move t (1 ∷ []) $ peeks t R.row (Is R.row) (shows 𝓛 R.row) d (R.mach d ∷ []) (λ is. move t (1 ∷ 0 ∷ []) $
+      subst (λ (τs : List Ty). Seq K 𝓛 (‵ (cell_at s τs (R.mach d ∷ []) b o) ∷ ‵ (R.row.own_val d (R.mach d ∷ [])) ∷ Γ) G) (sym R.one)
+      (use1 𝓛 (‵ (fat s R.mir b o (R.mach d))) (𝓛.laws.raw_at s R.mir b o (R.mach d)) $ k is))
+
+  laid : K → {b o : ℕ} (s : Share) (d : R.row.Denot) → Step K 𝓛 (‵ (cell_at s R.row.mir (R.mach d ∷ []) b o) ∷ ‵ (R.row.own_val d (R.mach d ∷ [])) ∷ Γ) G (‵ (fat s R.mir b o (R.mach d)) ∷ ‵ (R.row.own_val d (R.mach d ∷ [])) ∷ Γ) G
+  laid t {b} {o} s d = step (λ g. use1 𝓛 (‵ (fat s (raw_ty R.mir) b o (R.mach d))) (𝓛.laws.at_raw s R.mir b o (R.mach d)) $
+      subst (λ (τs : List Ty). Seq K 𝓛 (‵ (cell_at s τs (R.mach d ∷ []) b o) ∷ ‵ (R.row.own_val d (R.mach d ∷ [])) ∷ Γ) G) R.one g)
+
 module _ {M : Type 1} {𝓤 : Ura M} {𝓛 : Logic 𝓤} {K : Type 0} {Γ : List (Item 𝓤)} {G : Goal 𝓤 𝓛.H} {κ : Lft} {q : Share} (R : Lendable) where
-  -- a record behind a `&` is looked into, which gives a share of its cell; and no longer
+  -- a record of which shares are lent is looked into, which gives a share of its cell; and no longer
   pub looks-into : K → Soaks G → Copy 𝓛 R.row → {b o : ℕ} (d : R.row.Denot)
       → ((s : Share) → Known R d → Seq K 𝓛 (‵ (fat s R.mir b o (R.mach d)) ∷ ‵ (R.row.own_val d (R.mach d ∷ [])) ∷ ‵ (fobor κ q (part_at R.row s d b o)) ∷ ‵ (fshr_bor κ (λ s. part_at R.row s d b o)) ∷ Γ) G)
       → Seq K 𝓛 (‵ (fshr_bor κ (λ s. part_at R.row s d b o)) ∷ ‵ (flft κ q) ∷ Γ) G
+  unfolding part_of
   looks-into t z copied {b} {o} d k =
-      looks t z R.row (Is R.row) (shows 𝓛 R.row) (λ e. R.mach e ∷ []) R.tells copied d b o (λ s vs. spelt t R.row (Is R.row) (shows 𝓛 R.row) (λ e. R.mach e ∷ []) R.tells s d vs b o $
-      move t (1 ∷ []) $ peeks t R.row (Is R.row) (shows 𝓛 R.row) d (R.mach d ∷ []) (λ is. move t (1 ∷ 0 ∷ []) $
-      subst (λ (τs : List Ty). Seq K 𝓛 (‵ (cell_at s τs (R.mach d ∷ []) b o) ∷ ‵ (R.row.own_val d (R.mach d ∷ [])) ∷ ‵ (fobor κ q (part_at R.row s d b o)) ∷ ‵ (fshr_bor κ (λ s. part_at R.row s d b o)) ∷ Γ) G) (sym R.one)
-      (use1 𝓛 (‵ (fat s R.mir b o (R.mach d))) (𝓛.laws.raw_at s R.mir b o (R.mach d)) $ k s is)))
+      let L = share_laws 𝓛 R.row (Is R.row) (shows 𝓛 R.row) (λ e. R.mach e ∷ []) R.tells copied in
+      shr_bor_dup t $ move t (0 ∷ 2 ∷ []) $
+      shr_bor-open t z (record { cut = λ r. L.cut r (Parted.left r) (Parted.right r) (halves r) d b o; join = λ r. L.join r (Parted.left r) (Parted.right r) (halves r) d b o }) (λ s. move t (1 ∷ []) $ fpick t (λ vs. fsplit t $ lies R t s d vs (k s)))
 
   pub looks-away : K → Soaks G → {b o : ℕ} (s : Share) (d : R.row.Denot) → Step K 𝓛 (‵ (flft κ q) ∷ Γ) G (‵ (fat s R.mir b o (R.mach d)) ∷ ‵ (R.row.own_val d (R.mach d ∷ [])) ∷ ‵ (fobor κ q (part_at R.row s d b o)) ∷ Γ) G
-  looks-away t z {b} {o} s d = step (λ g. use1 𝓛 (‵ (fat s (raw_ty R.mir) b o (R.mach d))) (𝓛.laws.at_raw s R.mir b o (R.mach d)) $
-      subst (λ (τs : List Ty). Seq K 𝓛 (‵ (cell_at s τs (R.mach d ∷ []) b o) ∷ ‵ (R.row.own_val d (R.mach d ∷ [])) ∷ ‵ (fobor κ q (part_at R.row s d b o)) ∷ Γ) G) R.one
-      (shuts t z R.row s d (R.mach d ∷ []) b o $ g))
+  unfolding part_of
+  looks-away t z {b} {o} s d = step (λ g. laid R t s d $ fjoin t $ fpack t (List Val) (λ us. fsep (cell_at s R.row.mir us b o) (R.row.own_val d us)) (R.mach d ∷ []) $
+      move t (1 ∷ 0 ∷ []) $ obor_close t z $ drop t $ g)
+
+  -- a record behind a `&`, likewise
+  pub sees-into : K → Soaks G → Opens 𝓛 R.row → {b o : ℕ} (d : R.row.Denot)
+      → ((s : Share) → Known R d → Seq K 𝓛 (‵ (fat s R.mir b o (R.mach d)) ∷ ‵ (R.row.own_val d (R.mach d ∷ [])) ∷ Shut 𝓛 κ q (part_at R.row s d b o) ∷ ‵ (hidden_shr R.row κ d b o) ∷ Γ) G)
+      → Seq K 𝓛 (‵ (hidden_shr R.row κ d b o) ∷ ‵ (flft κ q) ∷ Γ) G
+  sees-into t z opened {b} {o} d k = looks t z R.row opened d b o (λ s vs. lies R t s d vs (k s))
+
+  pub sees-away : K → Soaks G → {b o : ℕ} (s : Share) (d : R.row.Denot) → Step K 𝓛 (‵ (flft κ q) ∷ Γ) G (‵ (fat s R.mir b o (R.mach d)) ∷ ‵ (R.row.own_val d (R.mach d ∷ [])) ∷ Shut 𝓛 κ q (part_at R.row s d b o) ∷ Γ) G
+  sees-away t z {b} {o} s d = step (λ g. laid R t s d $ shuts t z R.row s d (R.mach d ∷ []) b o $ g)
 
 -- a part of a cell of type σ that holds m, of which there is a share s: the steps to it, its type and its value
 module _ {M : Type 1} {𝓤 : Ura M} (K : Type 0) (𝓛 : Logic 𝓤) (s : Share) (σ : Ty) (b o : ℕ) (m : Val) where
