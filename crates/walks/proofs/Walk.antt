@@ -6,7 +6,7 @@ pub use mathlib.Core.Option.{none, some}
 pub use lib.IntN.{ℤ}
 pub use lib.ListN.{length}
 pub use seplogic.Ra.Ura.{Ura}
-pub use mir.Syntax.{Sym, Name, Lifetime, Ty, Fn, ty_unit, ty_bool, ty_int, ty_ref, ty_struct, tcons, tnil, imm, named, erased, w8, w64}
+pub use mir.Syntax.{Sym, Callee as Name, Lifetime, Ty, Fn, ty_unit, ty_bool, ty_int, ty_ref, ty_struct, tcons, tnil, imm, named, erased, w8, w64}
 pub use mir.Val.{WT, has_ty, Val, vstruct, vcons, vnil, vint, vbool, vptr, vunit, of_z}
 pub use base.Logic.{SProp, ent, id⊢, emp, via, fst∗, sep}
 pub use base.Fml.{GName, Lft, Share, ftrue, flft, fobs, fbor, fres, fshr_bor}
@@ -14,10 +14,11 @@ pub use prog.Memory.{Memory}
 pub use prog.Model.{Model}
 pub use prog.Routine.{Routine, Env}
 pub use prog.Wp.{Heap, Calls, Loops, WpFn, Closed}
-pub use ghost.Atoms.{Atoms, sem}
+pub use ghost.Atoms.{Atoms}
+pub use types.Logic.{Logic, sem}
 pub use contract.Monad.{Fun, fact_i}
-pub use contract.Running.{GhostRules, Running, given_of, tables}
-pub use types.Kit.{Given, Item, group, ‵, raw, ◌⊛◌, ⋆, ◌$◌, ◌∵◌, !, qed, by, move, keep, drop, use1, split, join, fsplit, fsplit3, fjoin, fjoin3, feq_l, feq_i, suffices, frame, done}
+pub use contract.Running.{Running, tables}
+pub use types.Kit.{Item, group, ‵, raw, ◌⊛◌, ⋆, ◌$◌, ◌∵◌, !, qed, by, move, keep, drop, use1, split, join, fsplit, fsplit3, fjoin, fjoin3, feq_l, feq_i, suffices, frame, done}
 pub use types.Run.{unit_lit, look, init, stop, hop, fld, from, load, addr, of_opd, and_then, no_more, assigns, first, returns, enter, alloc1, alloc0, params1, pass1, pass0, store, lit, returns_within, look_raw}
 pub use types.Part.{agg, whole, sub, look_in}
 pub use types.SemTy.{Body}
