@@ -39,7 +39,7 @@ pub record Callee : Type 2 where
   pub ended : Ended
   pub clauses : {M : Type 1} {𝓤 : Ura M} (𝓛 : Logic 𝓤) (mem : Memory → SProp 𝓤) (run : Routine → Fun 𝓤) → Clauses 𝓤 ended
   pub met : {M : Type 1} {𝓤 : Ura M} (𝓛 : Logic 𝓤) (𝓜 : Model 𝓤 𝓛.H) (𝓡 : Running 𝓤 𝓛.H 𝓜)
-      → Triple 𝓤 (𝓡.run routine) (triple_of 𝓛 ended.signature (closing 𝓛 ended (clauses 𝓛 𝓜.mem 𝓡.run)))
+      → Triple 𝓤 (𝓡.run routine) (triple_of 𝓛 ended.signature (closing 𝓛 ended (clauses 𝓛 𝓜.mem 𝓡.returns)))
   pub result : Ty
   pub typed : {M : Type 1} {𝓤 : Ura M} (𝓛 : Logic 𝓤) → (κs : Lfts ended.signature.lifetimes) (r : Res ended.signature κs) (v : Val) → Is (type_at ended.signature.result κs) r (v ∷ []) → Holds (has_ty result v) × WT v
 
@@ -71,9 +71,9 @@ abbrev pub Mean : Meanings → List Callee → Type 0
 Mean γ [] = Unit {0}
 Mean γ (g ∷ gs) = (γ g.name ≡ g.routine) × Mean γ gs
 
-pub all_known : {M : Type 1} {𝓤 : Ura M} (𝓛 : Logic 𝓤) (𝓜 : Model 𝓤 𝓛.H) (𝓡 : Running 𝓤 𝓛.H 𝓜) (γ : Meanings) (gs : List Callee) → Mean γ gs → AllKnown 𝓛 𝓜.mem 𝓡.run (tables 𝓤 𝓛.H 𝓜 𝓡 γ).C gs
+pub all_known : {M : Type 1} {𝓤 : Ura M} (𝓛 : Logic 𝓤) (𝓜 : Model 𝓤 𝓛.H) (𝓡 : Running 𝓤 𝓛.H 𝓜) (γ : Meanings) (gs : List Callee) → Mean γ gs → AllKnown 𝓛 𝓜.mem 𝓡.returns (tables 𝓤 𝓛.H 𝓜 𝓡 γ).C gs
 all_known 𝓛 𝓜 𝓡 γ [] means = tt
-all_known {𝓤 = 𝓤} 𝓛 𝓜 𝓡 γ (g ∷ gs) means = (record { meets = cited 𝓤 𝓛.H (triple 𝓛 𝓜.mem 𝓡.run g) 𝓜 𝓡 γ g.name g.routine means.0 (g.met 𝓛 𝓜 𝓡) }, all_known 𝓛 𝓜 𝓡 γ gs means.1)
+all_known {𝓤 = 𝓤} 𝓛 𝓜 𝓡 γ (g ∷ gs) means = (record { meets = cited 𝓤 𝓛.H (triple 𝓛 𝓜.mem 𝓡.returns g) 𝓜 𝓡 γ g.name g.routine means.0 (g.met 𝓛 𝓜 𝓡) }, all_known 𝓛 𝓜 𝓡 γ gs means.1)
 
 module _ {M : Type 1} {𝓤 : Ura M} {𝓛 : Logic 𝓤} {K : Type 0} {Γ : List (Item 𝓤)} {E : Env 𝓤 𝓛.H} {C : Calls 𝓤 𝓛.H} {Λ : Loops 𝓤 𝓛.H} {q : Post 𝓤 𝓛.H} {i : ℕ} {rest : Body} where
   -- a call's result, into its local

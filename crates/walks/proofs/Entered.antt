@@ -19,7 +19,7 @@ module _ {M : Type 1} {𝓤 : Ura M} (𝓛 : Logic 𝓤) (𝓜 : Model 𝓤 𝓛
 
   pub walk-entered : (γ : Env) (k : Name) (e : Fn) → Closed 𝓤 H (tables 𝓤 H 𝓜 𝓡 γ).C (tables 𝓤 H 𝓜 𝓡 γ).Λ k e → (gs : List Callee) → Mean γ gs
       → (T : Ended) (c : Clauses 𝓤 T) (hs : Stays T.signature.params T.kept) → AllGo 𝓛 T.signature.lifetimes T.signature.params T.kept hs
-      → ((C : Calls 𝓤 H) (Λ : Loops 𝓤 H) → FmC 𝓤 H 𝓛.laws C → AllKnown 𝓛 𝓜.mem 𝓡.run C gs → Walks 𝓛 T hs (WpFn 𝓤 H C Λ e) c)
+      → ((C : Calls 𝓤 H) (Λ : Loops 𝓤 H) → FmC 𝓤 H 𝓛.laws C → AllKnown 𝓛 𝓜.mem 𝓡.returns C gs → Walks 𝓛 T hs (WpFn 𝓤 H C Λ e) c)
       → Meets 𝓛 T.signature ((tables 𝓤 H 𝓜 𝓡 γ).C k) (closing 𝓛 T c)
   unfolding tables_of
   walk-entered γ k e closed gs means T c hs goes walks =
