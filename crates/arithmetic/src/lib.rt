@@ -1,4 +1,5 @@
 // Rounding and interpolation (01, "Steps and rounding" and step 2 of "The reading"), and the magnitude of a number.
+#![tactic(auto)]
 mod interpolation;
 mod rounding;
 mod sign;

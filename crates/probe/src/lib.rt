@@ -1,4 +1,5 @@
 // The platinum probe beside a cell (02, Change 8): resistance in 0.0001 ohm, and the TEMP that it stands for.
+#![tactic(auto)]
 ghost use Rattle.std.specs.Prelude.{◌≡◌};
 ghost use Rattle.probe.specs.Probe.{is_beyond, temp_of};
 

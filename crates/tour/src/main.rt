@@ -1,6 +1,7 @@
 // The library by example: a sheet is written and read back by its cursor, a device is made of it, takes two readings, serves frames and
 // gives reports, is calibrated from the panel, and reads a hot hopper by its probe; four weigh a lorry. Each call prints a line: what was
 // called, its number, and what it gave. The device that a call gives back is handed to the next.
+#![tactic(auto)]
 ghost use Rattle.figures.specs.Default.{default_sheet};
 ghost use Rattle.sheet.specs.Write.{sheet_bytes};
 ghost use Rattle.converter.specs.Call.{reading, frame, probe};

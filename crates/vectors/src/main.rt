@@ -1,6 +1,7 @@
 // Cases with their expected values: the messages of 001, known checksums, floats both ways, and a frame and a reply of each kind
 // (01, "Conditions of acceptance"). Each is a proof obligation, that the definitions give the expected value, and is run as well:
 // a case that comes out otherwise ends the run before its kind is named.
+#![tactic(auto)]
 mod checksums;
 mod floats;
 mod frames;

@@ -1,0 +1,16 @@
+-- `take_number` meets its contract. Assumes nothing.
+use mathlib.Core.Path.{ap, ◌∙◌}
+use Prim.Native.Nat.{ℕ, ◌-◌, ◌*◌, ◌%◌, ◌^◌}
+use native.Mathlib.Omega.{arith}
+use borrow.Author.Rules.{rules}
+use lib.Bits.{bit_xor}
+use Rattle.checksum.specs.Checksum.{shifts}
+use Rattle.checksum.proofs.Bytes.{number-at-once}
+use Rattle.checksum.proofs.take_number.Goals as goal
+
+pub returns : goal.returns
+returns c =
+    let a = c.args in
+    c.sixty_four_shifts.ensures
+    ∙ ap (λ (n : ℕ). shifts 64 (bit_xor a.sum n * 2 ^ (64 - 8 * a.count) % 2 ^ 64)) c.four_to_eight_at.ensures
+    ∙ number-at-once a.bytes.now a.i (λ j. omega (arith, c.type_inv.bytes j)) a.count (omega arith) (omega arith) (omega arith) a.sum (omega arith)
