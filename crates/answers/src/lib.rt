@@ -20,7 +20,7 @@ pub use parts::{
 use state::{Readings, State};
 
 // A value to send; done, and no value to send; or the number that the frame is turned down with.
-#[derive(Drop)]
+#[derive(Clone, Copy)]
 pub enum Answer {
     Value(f32),
     Done,

@@ -6,7 +6,7 @@ ghost use Rattle.arithmetic.specs.ForCode.{Computable, Segment};
 use crate::rounding::round_div;
 
 // The two values of a table's points, interpolated.
-#[derive(Drop)]
+#[derive(Clone, Copy)]
 pub struct Two {
     pub first: i64,
     pub second: i64,

@@ -7,7 +7,7 @@ ghost use Rattle.binary32.specs.Units.{units, units_of};
 
 // What a register takes: it counts in 1/2^shift, from least to most; at shift 0 in whole numbers alone.
 #[repr(C)]
-#[derive(Drop)]
+#[derive(Clone, Copy)]
 pub struct Range {
     pub shift: u32,
     pub least: i64,

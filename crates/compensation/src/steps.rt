@@ -13,7 +13,7 @@ use crate::tables::{adjustments, correction};
 use figures::{Calibration, Cell, Linearity, System, Temperature};
 
 // What steps 1 and 2 give: ELEC as the filter holds it, and o and g at TEMP.
-#[derive(Drop)]
+#[derive(Clone, Copy)]
 pub struct Input {
     pub elec: i64,
     pub o: i64,
@@ -21,7 +21,7 @@ pub struct Input {
 }
 
 // What steps 3 and 4 give: the raw cell value, CRAW and CELL.
-#[derive(Drop)]
+#[derive(Clone, Copy)]
 pub struct CellValues {
     pub raw: i64,
     pub craw: i64,
@@ -30,7 +30,7 @@ pub struct CellValues {
 
 // What a reading leaves.
 #[repr(C)]
-#[derive(Drop)]
+#[derive(Clone, Copy)]
 pub struct Values {
     pub craw: i64,
     pub cell: i64,

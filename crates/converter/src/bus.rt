@@ -14,7 +14,7 @@ use state::State;
 
 // The number, 0 where the frame was obeyed, and the length replied, 0 for none.
 #[repr(C)]
-#[derive(Drop)]
+#[derive(Clone, Copy)]
 pub struct Answered {
     pub number: u8,
     pub length: usize,

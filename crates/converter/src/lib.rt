@@ -17,7 +17,7 @@ use modbus::frame::Frame;
 use state::{Reported, State};
 
 #[repr(C)]
-#[derive(Drop)]
+#[derive(Clone, Copy)]
 pub struct Device {
     pub setup: Setup,
     pub state: State,
@@ -25,7 +25,7 @@ pub struct Device {
 
 // 0 and the device; or the number of the refusal, and the device that was handed in, of a making a record of zeros.
 #[repr(C)]
-#[derive(Drop)]
+#[derive(Clone, Copy)]
 pub struct Outcome {
     pub number: u8,
     pub device: Device,
@@ -33,7 +33,7 @@ pub struct Outcome {
 
 // And the length replied, 0 for none.
 #[repr(C)]
-#[derive(Drop)]
+#[derive(Clone, Copy)]
 pub struct Served {
     pub number: u8,
     pub length: usize,

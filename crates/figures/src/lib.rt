@@ -4,7 +4,7 @@ ghost use Rattle.std.specs.Prelude.{◌≡◌};
 ghost use Rattle.figures.specs.Default.{default_sheet};
 
 #[repr(C)]
-#[derive(Drop)]
+#[derive(Clone, Copy)]
 pub struct Cell {
     pub cofs: i64,
     pub cgai: i64,
@@ -13,7 +13,7 @@ pub struct Cell {
 }
 
 #[repr(C)]
-#[derive(Drop)]
+#[derive(Clone, Copy)]
 pub struct TemperaturePoint {
     pub ct: i64,
     pub cto: i64,
@@ -22,14 +22,14 @@ pub struct TemperaturePoint {
 
 // The first ctn points are figures; what stands in the others is not looked at.
 #[repr(C)]
-#[derive(Drop)]
+#[derive(Clone, Copy)]
 pub struct Temperature {
     pub ctn: u8,
     pub points: [TemperaturePoint; 5],
 }
 
 #[repr(C)]
-#[derive(Drop)]
+#[derive(Clone, Copy)]
 pub struct LinearityPoint {
     pub clx: i64,
     pub clk: i64,
@@ -37,14 +37,14 @@ pub struct LinearityPoint {
 
 // The first cln points are figures; what stands in the others is not looked at.
 #[repr(C)]
-#[derive(Drop)]
+#[derive(Clone, Copy)]
 pub struct Linearity {
     pub cln: u8,
     pub points: [LinearityPoint; 7],
 }
 
 #[repr(C)]
-#[derive(Drop)]
+#[derive(Clone, Copy)]
 pub struct System {
     pub sofs: i64,
     pub sgai: i64,
@@ -54,14 +54,14 @@ pub struct System {
 }
 
 #[repr(C)]
-#[derive(Drop)]
+#[derive(Clone, Copy)]
 pub struct Filter {
     pub fflv: i64,
     pub ffst: i64,
 }
 
 #[repr(C)]
-#[derive(Drop)]
+#[derive(Clone, Copy)]
 pub struct Calibration {
     pub cell: Cell,
     pub temperature: Temperature,

@@ -8,7 +8,7 @@ use modbus::frame::Frame;
 
 // The figures in force, SZ as last written among them; the waiting copy, whose own SZ is not looked at; and the station.
 #[repr(C)]
-#[derive(Drop)]
+#[derive(Clone, Copy)]
 pub struct Setup {
     pub figures: Calibration,
     pub copy: Calibration,

@@ -12,7 +12,7 @@ const SCRATCH_LEAST: usize = 342;
 
 // 0, the bytes written and the identity beside them; or the number of the refusal, and zeros.
 #[repr(C)]
-#[derive(Drop)]
+#[derive(Clone, Copy)]
 pub struct MovedBack {
     pub number: u8,
     pub length: usize,

@@ -10,7 +10,7 @@ use register::Access;
 // A good frame, or the number that it is turned down with. A write carries the float that it sends,
 // which its register takes. A register's number has 32 bits, so that a frame fills more than one word:
 // one that fits is packed and unpacked by the compiler, some 20 instructions for each call.
-#[derive(Drop)]
+#[derive(Clone, Copy)]
 pub enum Frame {
     Refused(u8),
     Read(u32),

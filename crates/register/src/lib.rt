@@ -91,7 +91,7 @@ const STEPS: u32 = 16;
 const PARTS: u32 = 28;
 
 // What a frame may do with a register.
-#[derive(Drop)]
+#[derive(Clone, Copy)]
 pub enum Access {
     Unlisted,
     ReadOnly,

@@ -20,7 +20,7 @@ pub use reading::no_figures;
 
 // What a sheet says, and 0; or the number of its first fault, and zeros.
 #[repr(C)]
-#[derive(Drop)]
+#[derive(Clone, Copy)]
 pub struct Sheet {
     pub number: u8,
     pub figures: Calibration,
@@ -28,7 +28,7 @@ pub struct Sheet {
 
 // What marks one sheet (02, Change 6): its serial number, and its day, in days after 1 January 2000.
 #[repr(C)]
-#[derive(Drop)]
+#[derive(Clone, Copy)]
 pub struct Identity {
     pub serial: i64,
     pub day: i64,
@@ -37,7 +37,7 @@ pub struct Identity {
 // What a sheet of either form says, and 0; or the number of its first fault, and zeros. The form is the first count, 4 for the old
 // one, which has no identity, and 2 for the new.
 #[repr(C)]
-#[derive(Drop)]
+#[derive(Clone, Copy)]
 pub struct Contents {
     pub number: u8,
     pub form: u8,
@@ -47,7 +47,7 @@ pub struct Contents {
 
 // A count found at a place and the place after it, and 0; or 1, where the sheet ends before, and the place kept.
 #[repr(C)]
-#[derive(Drop)]
+#[derive(Clone, Copy)]
 pub struct CountFound {
     pub number: u8,
     pub value: u8,
@@ -56,7 +56,7 @@ pub struct CountFound {
 
 // A figure found at a place, likewise.
 #[repr(C)]
-#[derive(Drop)]
+#[derive(Clone, Copy)]
 pub struct FigureFound {
     pub number: u8,
     pub value: i64,
@@ -64,14 +64,14 @@ pub struct FigureFound {
 }
 
 // The lent sheet itself, and how far it has been read.
-#[derive(Drop)]
+#[derive(Clone, Copy)]
 pub struct Cursor<'a> {
     pub sheet: &'a [u8],
     pub at: usize,
 }
 
 // A count read and the cursor to go on with, and 0; or 1, where the sheet ends before, and the cursor handed in.
-#[derive(Drop)]
+#[derive(Clone, Copy)]
 pub struct CountStep<'a> {
     pub number: u8,
     pub value: u8,
@@ -79,7 +79,7 @@ pub struct CountStep<'a> {
 }
 
 // A figure read, likewise.
-#[derive(Drop)]
+#[derive(Clone, Copy)]
 pub struct FigureStep<'a> {
     pub number: u8,
     pub value: i64,

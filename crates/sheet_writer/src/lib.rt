@@ -17,7 +17,7 @@ use sheet::{judge, places, sheet_length};
 
 // 0 and the bytes written; or the number of the refusal, and 0.
 #[repr(C)]
-#[derive(Drop)]
+#[derive(Clone, Copy)]
 pub struct Written {
     pub number: u8,
     pub length: usize,

@@ -12,7 +12,7 @@ pub use requests::{fresh, restart, state_by};
 // What the readings since the start or RST left: whether there is one; of the last, its input before the filter, ELEC as the filter
 // holds it, TEMP and its values; PEAK and TROF.
 #[repr(C)]
-#[derive(Drop)]
+#[derive(Clone, Copy)]
 pub struct Readings {
     pub any: bool,
     pub input: i64,
@@ -25,7 +25,7 @@ pub struct Readings {
 
 // SYSN, where one was taken.
 #[repr(C)]
-#[derive(Drop)]
+#[derive(Clone, Copy)]
 pub struct Snapshot {
     pub taken: bool,
     pub sysn: i64,
@@ -33,7 +33,7 @@ pub struct Snapshot {
 
 // What a start makes anew.
 #[repr(C)]
-#[derive(Drop)]
+#[derive(Clone, Copy)]
 pub struct State {
     pub readings: Readings,
     pub flag: u16,

@@ -7,7 +7,7 @@ use crate::Readings;
 use binary32::sent::float_of_steps;
 
 #[repr(C)]
-#[derive(Drop)]
+#[derive(Clone, Copy)]
 pub struct Report {
     pub sys: f32,
     pub peak: f32,
@@ -16,7 +16,7 @@ pub struct Report {
 }
 
 #[repr(C)]
-#[derive(Drop)]
+#[derive(Clone, Copy)]
 pub struct Reported {
     pub number: u8,
     pub report: Report,

@@ -7,7 +7,7 @@ use figures::Cell;
 use sheet::{CountFound, Cursor, FigureFound};
 
 // The cell section, and 0; or 1, where the sheet ends before, and 0 for what is missing.
-#[derive(Drop)]
+#[derive(Clone, Copy)]
 pub(crate) struct CellSection {
     pub number: u8,
     pub count: u8,

@@ -7,8 +7,7 @@ use borrow.Author.Tests.{lt-ltb, le-ltb, le-leb, lt-leb, eq-eqb, ne_eqb}
 use Prim.Native.Nat.{ℕ, ◌+◌, ◌-◌, ◌*◌, ◌%◌, ◌^◌, ◌≤◌, ◌<◌}
 use lib.Pow.{pow_mono, shl_lt}
 use Rattle.binary32.specs.Units.{units}
-use Rattle.binary32.proofs.received.magnitude.Statement.{statement}
-use Rattle.binary32.proofs.received.magnitude.Tie as tie
+use Rattle.binary32.proofs.received.magnitude.Goals as goal
 
 -- no digit is shifted out
 kept : (d place : ℕ) → d < 2 ^ 24 → place ≤ 161 → d * 2 ^ (place - 125) % 2 ^ 64 ≡ d * 2 ^ (place - 125)
@@ -17,13 +16,18 @@ kept d place h l = mod-eq_of_lt (lt_of_lt_of_le (shl_lt 24 (place - 125) h) (pow
     room : (place : ℕ) → place ≤ 161 → 24 + (place - 125) ≤ 64
     room place l = omega arith
 
-pub magnitude-spec : {M : Type 1} → statement M
+pub returns-then-place-gt161 : goal.returns-then-place-gt161
 unfolding units
-magnitude-spec =
-    tie.close
-    (tie.spec (λ c. search rules)
-    (λ c. simp (lt-ltb _ _ c.if1.true)) (λ c. search rules)
-    (λ c. omega arith)
-    (λ c. simp (le-ltb _ _ c.before.if1.false, le-leb _ _ c.if2.true) (kept _ _ (omega arith) (omega arith)))
-    (λ c. simp (le-ltb _ _ c.before.before.if1.false, lt-leb _ _ c.before.if2.false, eq-eqb _ _ c.if3.true))
-    (λ c. simp (le-ltb _ _ c.before.before.if1.false, lt-leb _ _ c.before.if2.false, ne_eqb _ _ c.if3.false)))
+returns-then-place-gt161 c = simp (lt-ltb _ _ c.if-place-gt161.true)
+
+pub returns-then-place-ge125 : goal.returns-then-place-ge125
+unfolding units
+returns-then-place-ge125 c = simp (le-ltb _ _ c.if-place-gt161.false, le-leb _ _ c.if-place-ge125.true) (kept _ _ (omega arith) (omega arith))
+
+pub returns-then-pattern-eq0 : goal.returns-then-pattern-eq0
+unfolding units
+returns-then-pattern-eq0 c = simp (le-ltb _ _ c.if-place-gt161.false, lt-leb _ _ c.if-place-ge125.false, eq-eqb _ _ c.if-pattern-eq0.true)
+
+pub returns : goal.returns
+unfolding units
+returns c = simp (le-ltb _ _ c.if-place-gt161.false, lt-leb _ _ c.if-place-ge125.false, ne_eqb _ _ c.if-pattern-eq0.false)

@@ -19,15 +19,8 @@ use Rattle.binary32.specs.ForCode.{Computable}
 use Rattle.binary32.specs.Units.{units, units_of}
 use Rattle.binary32.specs.declared.received.Range.{Range}
 use Rattle.binary32.proofs.Counted.{takes-is, in_units, whole_units, units-top, low_bits, least_fits, most-fits, least-units-fit, most-units-fit}
-use Rattle.binary32.proofs.received.takes.Statement.{statement}
-use Rattle.binary32.proofs.received.takes.Tie as tie
-
-sfits : {z : ℤ} → mag z < 2 ^ hbits w64 → SFits w64 z
-sfits h = record { sfits = h }
-
--- what owning an `f32` tells: the format holds it
-held : (c : tie.Start) → T (fits binary32 c.args.x)
-held c = subst T (sym c.well-formed.1.0.1) tt
+use Rattle.binary32.proofs.received.takes.Goals.{Start}
+use Rattle.binary32.proofs.received.takes.Goals as goal
 
 module _ (r : Range) (k : Computable r) (x : Float) (F : T (fits binary32 x)) {u : ℤ} (e : u ≡ units_of r.shift x) where
   abbrev whole : Bool
@@ -56,45 +49,49 @@ module _ (r : Range) (k : Computable r) (x : Float) (F : T (fits binary32 x)) {u
       ∙ low_bits (leb (2 ^ 31) (to_bits binary32 x)) (units r.shift (to_bits binary32 x % 2 ^ 31)) (units-top r.shift (to_bits binary32 x % 2 ^ 31))
       ∙ ap (λ (n : ℕ). ltb 0 n || eqb (units r.shift (to_bits binary32 x % 2 ^ 31) % 2 ^ 25) 0) (sym z)
 
-mul-if1 : tie.Need-overflow-mul-if1
-mul-if1 c =
-    let s = c.before.before.before in
+sfits : {z : ℤ} → mag z < 2 ^ hbits w64 → SFits w64 z
+sfits h = record { sfits = h }
+
+-- what owning an `f32` tells: the format holds it
+held : (c : Start) → T (fits binary32 c.args.x)
+held c = subst T (sym c.well-formed.1.0.1) tt
+
+pub overflow_mul-range : goal.overflow_mul-range
+overflow_mul-range c =
+    let s = c in
     simp (to_z-of_z, least_fits s.args.range s.requires) (least-units-fit s.args.range s.requires)
 
-returns : tie.Need-returns
-returns c =
-    let s = c.before.before.before.before in
-    let u = c.before.before.before.units_of in
-    too-low s.args.range s.requires s.args.x (held s) u.ensures (simp (to_z-of_z, sfits {z = u.result} u.type-inv, least_fits s.args.range s.requires, least-units-fit s.args.range s.requires) at c.if1.true)
+pub returns-then-size-range : goal.returns-then-size-range
+returns-then-size-range c =
+    let s = (goal.at.returns-then-size-range c).Start in
+    let u = c.units_of-size in
+    too-low s.args.range s.requires s.args.x (held s) u.ensures (simp (to_z-of_z, sfits {z = u.result} u.type-inv, least_fits s.args.range s.requires, least-units-fit s.args.range s.requires) at c.if-size-range.true)
 
-mul-if2 : tie.Need-overflow-mul-if2
-mul-if2 c =
-    let s = c.before.before.before.before.before.before in
+pub overflow_mul-range-2 : goal.overflow_mul-range-2
+overflow_mul-range-2 c =
+    let s = c in
     simp (to_z-of_z, most-fits s.args.range s.requires) (most-units-fit s.args.range s.requires)
 
-returns-2 : tie.Need-returns-2
-returns-2 c =
-    let s = c.before.before.before.before.before.before.before in
-    let u = c.before.before.before.before.before.before.units_of in
-    too-high s.args.range s.requires s.args.x (held s) u.ensures (simp (to_z-of_z, sfits {z = u.result} u.type-inv, most-fits s.args.range s.requires, most-units-fit s.args.range s.requires) at c.if2.true)
+pub returns-then-range-size : goal.returns-then-range-size
+returns-then-range-size c =
+    let s = (goal.at.returns-then-range-size c).Start in
+    let u = c.units_of-size in
+    too-high s.args.range s.requires s.args.x (held s) u.ensures (simp (to_z-of_z, sfits {z = u.result} u.type-inv, most-fits s.args.range s.requires, most-units-fit s.args.range s.requires) at c.if-range-size.true)
 
-returns-3 : tie.Need-returns-3
-returns-3 c =
-    let s = c.before.before.before.before.before.before.before.before.before in
-    let u = c.before.before.before.before.before.before.before.before.units_of in
-    whole_is s.args.range s.requires s.args.x (held s) u.ensures c.if3.true
+pub returns-then-range-eq0 : goal.returns-then-range-eq0
+returns-then-range-eq0 c =
+    let s = (goal.at.returns-then-range-eq0 c).Start in
+    let u = c.units_of-size in
+    whole_is s.args.range s.requires s.args.x (held s) u.ensures c.if-range-eq0.true
     ∙ in-range s.args.range s.requires s.args.x (held s) u.ensures
-    (simp (to_z-of_z, sfits {z = u.result} u.type-inv, least_fits s.args.range s.requires, least-units-fit s.args.range s.requires) at c.before.before.before.before.before.if1.false)
-    (simp (to_z-of_z, sfits {z = u.result} u.type-inv, most-fits s.args.range s.requires, most-units-fit s.args.range s.requires) at c.before.before.if2.false)
+    (simp (to_z-of_z, sfits {z = u.result} u.type-inv, least_fits s.args.range s.requires, least-units-fit s.args.range s.requires) at c.if-size-range.false)
+    (simp (to_z-of_z, sfits {z = u.result} u.type-inv, most-fits s.args.range s.requires, most-units-fit s.args.range s.requires) at c.if-range-size.false)
 
-returns-4 : tie.Need-returns-4
-returns-4 c =
-    let s = c.before.before.before.before.before.before.before.before.before in
-    let u = c.before.before.before.before.before.before.before.before.units_of in
-    ap (λ (t : Bool). t || eqb (units s.args.range.shift (to_bits binary32 s.args.x % 2 ^ 31) % 2 ^ 25) 0) (sym (lt-ltb 0 s.args.range.shift (omega (arith, c.if3.false))))
+pub returns : goal.returns
+returns c =
+    let s = (goal.at.returns c).Start in
+    let u = c.units_of-size in
+    ap (λ (t : Bool). t || eqb (units s.args.range.shift (to_bits binary32 s.args.x % 2 ^ 31) % 2 ^ 25) 0) (sym (lt-ltb 0 s.args.range.shift (omega (arith, c.if-range-eq0.false))))
     ∙ in-range s.args.range s.requires s.args.x (held s) u.ensures
-    (simp (to_z-of_z, sfits {z = u.result} u.type-inv, least_fits s.args.range s.requires, least-units-fit s.args.range s.requires) at c.before.before.before.before.before.if1.false)
-    (simp (to_z-of_z, sfits {z = u.result} u.type-inv, most-fits s.args.range s.requires, most-units-fit s.args.range s.requires) at c.before.before.if2.false)
-
-pub takes-spec : {M : Type 1} → statement M
-takes-spec = tie.close (tie.spec (λ c κs. search rules) mul-if1 returns mul-if2 returns-2 returns-3 returns-4)
+    (simp (to_z-of_z, sfits {z = u.result} u.type-inv, least_fits s.args.range s.requires, least-units-fit s.args.range s.requires) at c.if-size-range.false)
+    (simp (to_z-of_z, sfits {z = u.result} u.type-inv, most-fits s.args.range s.requires, most-units-fit s.args.range s.requires) at c.if-range-size.false)

@@ -19,15 +19,8 @@ use Rattle.binary32.specs.Received.{takes, nearest, counted}
 use Rattle.binary32.specs.Units.{units_of}
 use Rattle.binary32.specs.declared.received.Range.{Range}
 use Rattle.binary32.proofs.Counted.{taken-nearest, units-within}
-use Rattle.binary32.proofs.received.count.Statement.{statement}
-use Rattle.binary32.proofs.received.count.Tie as tie
-
-fits-x : (c : tie.Start) → T (fits binary32 c.args.x)
-fits-x c = subst T (sym c.well-formed.1.0.1) tt
-
-counted-at : (r : Range) (x : Float) (b : Bool) → b ≡ takes r x → cond b (nearest r.shift x) (pos 0) ≡ counted r x
-unfolding counted
-counted-at r x b h = ap (λ (t : Bool). cond t (nearest r.shift x) (pos 0)) h
+use Rattle.binary32.proofs.received.count.Goals.{Start}
+use Rattle.binary32.proofs.received.count.Goals as goal
 
 -- units, raised by half a count and lowered by the sign, and shifted
 module _ {u : ℤ} (w : u within (2 ^ 61)) where
@@ -46,27 +39,31 @@ module _ {u : ℤ} (w : u within (2 ^ 61)) where
   sum-fit : SFits w64 (u +ℤ pos (2 ^ 24) +ℤ shr_z u (2 ^ 63))
   sum-fit = fits-i64 (sum (sum (known w) (literal (2 ^ 24))) (known sign-in)) tt
 
+fits-x : (c : Start) → T (fits binary32 c.args.x)
+fits-x c = subst T (sym c.well-formed.1.0.1) tt
+
+counted-at : (r : Range) (x : Float) (b : Bool) → b ≡ takes r x → cond b (nearest r.shift x) (pos 0) ≡ counted r x
+unfolding counted
+counted-at r x b h = ap (λ (t : Bool). cond t (nearest r.shift x) (pos 0)) h
+
 within-units : {u : ℤ} (shift : ℕ) (x : Float) → u ≡ units_of shift x → u within (2 ^ 61)
 within-units shift x e = rw e (units-within shift x)
 
-add-result : tie.Need-overflow-add-result
-add-result c = let w = within-units _ _ c.units_of.ensures in simp (to_z-of_z, plain-fit w) (raised-fit w)
+pub overflow_add-result : goal.overflow_add-result
+overflow_add-result c = let w = within-units _ _ c.units_of-size.ensures in simp (to_z-of_z, plain-fit w) (raised-fit w)
 
-add-result-2 : tie.Need-overflow-add-result-2
-add-result-2 c = let w = within-units _ _ c.units_of.ensures in simp (to_z-of_z, plain-fit w, raised-fit w, sign-fit w) (sum-fit w)
+pub overflow_add-result-then-takes : goal.overflow_add-result-then-takes
+overflow_add-result-then-takes c = let w = within-units _ _ c.units_of-size.ensures in simp (to_z-of_z, plain-fit w, raised-fit w, sign-fit w) (sum-fit w)
 
-returns : tie.Need-returns
-returns c =
-    let s = c.before.before.before in
-    let h : true ≡ takes s.args.range s.args.x = sym c.before.if1.true ∙ c.before.before.takes.ensures in
-    let w = within-units _ _ c.units_of.ensures in
-    simp (to_z-of_z, plain-fit w, raised-fit w, sign-fit w, sum-fit w) (rw (round-shift c.units_of.result (2 ^ 24) (omega arith) (plain-fit w)) (to_z-of_z w64 _ (round-fits c.units_of.result (pos (2 ^ 25)) (lt_z_yes tt) (plain-fit w))))
-    ∙ ap (λ (u : ℤ). round_div u (pos 33554432)) c.units_of.ensures
+pub returns-then-takes : goal.returns-then-takes
+returns-then-takes c =
+    let s = (goal.at.returns-then-takes c).Start in
+    let h : true ≡ takes s.args.range s.args.x = sym c.if-takes.true ∙ c.takes.ensures in
+    let w = within-units _ _ c.units_of-size.ensures in
+    simp (to_z-of_z, plain-fit w, raised-fit w, sign-fit w, sum-fit w) (rw (round-shift c.units_of-size.result (2 ^ 24) (omega arith) (plain-fit w)) (to_z-of_z w64 _ (round-fits c.units_of-size.result (pos (2 ^ 25)) (lt_z_yes tt) (plain-fit w))))
+    ∙ ap (λ (u : ℤ). round_div u (pos 33554432)) c.units_of-size.ensures
     ∙ sym (taken-nearest s.args.range s.requires s.args.x (fits-x s) (sym h))
     ∙ counted-at s.args.range s.args.x true h
 
-returns-2 : tie.Need-returns-2
-returns-2 c = let s = c.before.before in counted-at s.args.range s.args.x false (sym c.if1.false ∙ c.before.takes.ensures)
-
-pub count_spec : {M : Type 1} → statement M
-count_spec = tie.close (tie.spec (λ c κs. search rules) (λ c κs. search rules) add-result add-result-2 returns returns-2)
+pub returns : goal.returns
+returns c = let s = c in counted-at s.args.range s.args.x false (sym c.if-takes.false ∙ c.takes.ensures)

@@ -6,8 +6,7 @@ use lib.Dec.{T}
 use lib.Ieee.{Float, nan, inf, fin, binary32, ne, is_nan, to_bits}
 use lib.Ieee.Compare.{differs_from_itself, nan_differs}
 use Rattle.integers.proofs.Order.{is_true, is_false}
-use Rattle.binary32.proofs.wire.bits_of_float.Statement.{statement}
-use Rattle.binary32.proofs.wire.bits_of_float.Tie as tie
+use Rattle.binary32.proofs.wire.bits_of_float.Goals as goal
 
 no_nan : (x : Float) → ne x x ≡ false → T (not (is_nan x))
 unfolding is_nan
@@ -15,9 +14,9 @@ no_nan nan h = is_false (sym nan_differs ∙ h)
 no_nan (inf s) h = tt
 no_nan (fin s m e) h = tt
 
-returns : tie.Need-returns
+pub returns-then-x : goal.returns-then-x
 unfolding to_bits
-returns c = sym (ap (to_bits binary32) (differs_from_itself c.before.args.x (is_true c.if1.true)))
+returns-then-x c = sym (ap (to_bits binary32) (differs_from_itself c.args.x (is_true c.if-x.true)))
 
-pub bits-of-float-spec : {M : Type 1} → statement M
-bits-of-float-spec = tie.close (tie.spec returns (λ c. no_nan c.before.args.x c.if1.false) (λ c. search rules))
+pub float_to_bits-result : goal.float_to_bits-result
+float_to_bits-result c = no_nan c.args.x c.if-x.false
