@@ -40,7 +40,7 @@ module _ {u : ℤ} (w : u within (2 ^ 61)) where
   sum-fit = fits-i64 (sum (sum (known w) (literal (2 ^ 24))) (known sign-in)) tt
 
 fits-x : (c : Start) → T (fits binary32 c.args.x)
-fits-x c = subst T (sym c.well-formed.1.0.1) tt
+fits-x c = subst T (sym c.well_formed.1.0.1) tt
 
 counted-at : (r : Range) (x : Float) (b : Bool) → b ≡ takes r x → cond b (nearest r.shift x) (pos 0) ≡ counted r x
 unfolding counted

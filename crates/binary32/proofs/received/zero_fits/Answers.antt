@@ -9,7 +9,7 @@ use Rattle.binary32.proofs.received.zero_fits.Goals.{Start}
 use Rattle.binary32.proofs.received.zero_fits.Goals as goal
 
 held : (c : Start) → T (fits binary32 c.args.x)
-held c = subst T (sym c.well-formed.0.1) tt
+held c = subst T (sym c.well_formed.0.1) tt
 
 pub returns : goal.returns
 returns c = ap (λ (b : ℕ). leb (b % 2 ^ 31) 1190789120) c.bits_of_float.ensures ∙ zero-taken c.args.x (held (goal.at.returns c).Start)

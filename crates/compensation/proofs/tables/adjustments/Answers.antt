@@ -1,0 +1,12 @@
+-- `adjustments` meets its contract: an acceptable table has two points at least and is computable. Assumes nothing.
+use mir.ValLaws.{to_z-of_z}
+use Rattle.figures.specs.Rows.{temperatures}
+use Rattle.compensation.proofs.Computable.{cto-computable, ctg-computable}
+use borrow.Author.Rules.{rules}
+use Rattle.compensation.proofs.tables.adjustments.Goals as goal
+
+pub returns : goal.returns
+unfolding temperatures
+returns c =
+    let s = c in
+    simp (to_z-of_z, s.ranges.temp) at (rw c.temperature_rows.ensures at c.interpolate_two.ensures)

@@ -1,0 +1,8 @@
+-- Figures beside 0, zeros beside a refusal. Assumes nothing.
+use Rattle.sheet.specs.Read.{read_old}
+use Rattle.std.proofs.Common.{sym, ◌∙◌, rules, ne_eqb}
+use Rattle.sheet.proofs.reading.read_old.Goals as goal
+
+pub returns : goal.returns
+unfolding read_old
+returns c = rw (c.figures_of-figures.ensures, sym c.old_number-number.ensures ∙ c.if-number-ne0.false)
