@@ -65,10 +65,20 @@ module _ (f : Format) (a c : ℕ) where
 
 or_left : (a b : Bool) → T a → T (a || b)
 or_left true b t = tt
+or_left false b t = elim t [ ]
 
 -- a negative float is at most any other
 across : (x y : Float) → HasSign true x → HasSign false y → T (le x y)
 unfolding le lt eq
+across nan y h k = elim h [ ]
+across (inf false) y h k = elim h [ ]
+across (inf true) nan h k = elim k [ ]
+across (inf true) (inf true) h k = elim k [ ]
+across (inf true) (fin true n d) h k = elim k [ ]
+across (fin false m e) y h k = elim h [ ]
+across (fin true m e) nan h k = elim k [ ]
+across (fin true m e) (inf true) h k = elim k [ ]
+across (fin true m e) (fin true n d) h k = elim k [ ]
 across (inf true) (inf false) h k = tt
 across (inf true) (fin false n d) h k = tt
 across (fin true m e) (inf false) h k = tt
@@ -82,6 +92,15 @@ across (fin true m e) (fin false n d) h k = by (m * up e * down d) (n * up d * d
 -- with the other sign, in the other order
 turned : (x y : Float) → HasSign false x → HasSign false y → T (le x y) → T (le (neg y) (neg x))
 unfolding le lt eq neg
+turned nan y h k l = elim h [ ]
+turned (inf false) nan h k l = elim k [ ]
+turned (inf false) (inf true) h k l = elim k [ ]
+turned (inf false) (fin _ n d) h k l = elim l [ ]
+turned (inf true) y h k l = elim h [ ]
+turned (fin false m e) nan h k l = elim k [ ]
+turned (fin false m e) (inf true) h k l = elim k [ ]
+turned (fin false m e) (fin true n d) h k l = elim k [ ]
+turned (fin true m e) y h k l = elim h [ ]
 turned (inf false) (inf false) h k l = tt
 turned (fin false m e) (inf false) h k l = tt
 turned (fin false m e) (fin false n d) h k l =
@@ -93,6 +112,7 @@ turned (fin false m e) (fin false n d) h k l =
     by true q r f t = tt
     by false true true f t = tt
     by false true false f t = f tt
+    by false false r f t = elim t [ ]
 
 pub sent-in-order : SentInOrder
 unfolding count_float

@@ -1,5 +1,4 @@
 -- `binary32::received::count` meets its contract: what is taken is rounded from its units, by a shift. Assumes nothing.
-use borrow.Author.Rules.{rules}
 use mathlib.Core.Path.{◌≡◌, sym, ap, ◌∙◌, subst}
 use mathlib.Core.Bool.{Bool, true, false, cond}
 use Prim.Native.Nat.{ℕ, ◌^◌}

@@ -1,5 +1,4 @@
 -- `binary32::received::takes` meets its contract: `Counted` says what its tests of the units tell. Assumes nothing.
-use borrow.Author.Rules.{rules}
 use borrow.Author.Tests.{lt-ltb}
 use mathlib.Core.Path.{◌≡◌, refl, sym, ap, ap₂, ◌∙◌, subst}
 use mathlib.Core.Bool.{Bool, true, false, ◌&&◌, ◌||◌}
@@ -65,3 +64,33 @@ pub overflow_mul-range-2 : goal.overflow_mul-range-2
 overflow_mul-range-2 c =
     let s = c in
     simp (to_z-of_z, most-fits s.args.range s.requires) (most-units-fit s.args.range s.requires)
+
+pub returns-then-size-range : goal.returns-then-size-range
+returns-then-size-range c =
+    let s = (goal.at.returns-then-size-range c).Start in
+    let u = c.units_of-size in
+    too-low s.args.range s.requires s.args.x (held s) u.ensures (simp (to_z-of_z, sfits {z = u.result} u.type_inv, least_fits s.args.range s.requires, least-units-fit s.args.range s.requires) at c.if-size-range.true)
+
+pub returns-then-range-size : goal.returns-then-range-size
+returns-then-range-size c =
+    let s = (goal.at.returns-then-range-size c).Start in
+    let u = c.units_of-size in
+    too-high s.args.range s.requires s.args.x (held s) u.ensures (simp (to_z-of_z, sfits {z = u.result} u.type_inv, most-fits s.args.range s.requires, most-units-fit s.args.range s.requires) at c.if-range-size.true)
+
+pub returns-then-range-eq0 : goal.returns-then-range-eq0
+returns-then-range-eq0 c =
+    let s = (goal.at.returns-then-range-eq0 c).Start in
+    let u = c.units_of-size in
+    whole_is s.args.range s.requires s.args.x (held s) u.ensures c.if-range-eq0.true
+    ∙ in-range s.args.range s.requires s.args.x (held s) u.ensures
+    (simp (to_z-of_z, sfits {z = u.result} u.type_inv, least_fits s.args.range s.requires, least-units-fit s.args.range s.requires) at c.if-size-range.false)
+    (simp (to_z-of_z, sfits {z = u.result} u.type_inv, most-fits s.args.range s.requires, most-units-fit s.args.range s.requires) at c.if-range-size.false)
+
+pub returns : goal.returns
+returns c =
+    let s = (goal.at.returns c).Start in
+    let u = c.units_of-size in
+    ap (λ (t : Bool). t || eqb (units s.args.range.shift (to_bits binary32 s.args.x % 2 ^ 31) % 2 ^ 25) 0) (sym (lt-ltb 0 s.args.range.shift (omega (arith, c.if-range-eq0.false))))
+    ∙ in-range s.args.range s.requires s.args.x (held s) u.ensures
+    (simp (to_z-of_z, sfits {z = u.result} u.type_inv, least_fits s.args.range s.requires, least-units-fit s.args.range s.requires) at c.if-size-range.false)
+    (simp (to_z-of_z, sfits {z = u.result} u.type_inv, most-fits s.args.range s.requires, most-units-fit s.args.range s.requires) at c.if-range-size.false)

@@ -1,5 +1,4 @@
 -- `binary32::received::zero_fits` meets its contract: `Zero` says what the pattern tells. Assumes nothing.
-use borrow.Author.Rules.{rules}
 use mathlib.Core.Path.{sym, ap, ◌∙◌, subst}
 use Prim.Native.Nat.{ℕ, ◌%◌, ◌^◌}
 use lib.Dec.{T, leb}
