@@ -1,5 +1,6 @@
 // The registers on the bus, by 004's decimal numbers (01, "The bus"; Change 1).
 #![tactic(auto)]
+
 ghost use Rattle.std.specs.Prelude.{◌≡◌, pos, ◌≤ℤ◌};
 ghost use Rattle.register.specs.Register.{range, symmetric as symmetric_in, listed, access_of, range_of};
 

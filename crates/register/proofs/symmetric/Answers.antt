@@ -12,8 +12,8 @@ use Rattle.integers.proofs.Difference.{⟨◌⟩, nat, ◌⊝◌, minus, le?, eq
 use Rattle.integers.proofs.Machine.{fits!, fits-pos-part}
 use Rattle.register.specs.declared.Access.TheVariants.{Takes}
 use Rattle.register.specs.Register.{symmetric}
-use Rattle.register.proofs.symmetric.Statement.{statement}
-use Rattle.register.proofs.symmetric.Tie as tie
+use Rattle.register.proofs.symmetric.Goals.{Start}
+use Rattle.register.proofs.symmetric.Goals as goal
 
 module _ {z : ℤ} (f : SFits w64 z) (h : pos 0 ≤ℤ z) where
   negated : SFits w64 (pos 0 -ℤ z)
@@ -24,14 +24,11 @@ module _ {z : ℤ} (f : SFits w64 z) (h : pos 0 ≤ℤ z) where
       ap (λ (a : ℤ). Takes (record { shift = shift; least = a; most = z }))
       (to_z-of_z w64 (pos 0 -ℤ z) negated ∙ eq! (nat 0 ⊝ ⟨ z ⟩) (minus ⟨ z ⟩) (omega arith))
 
-held : (c : tie.Start) → SFits w64 c.args.most
+held : (c : Start) → SFits w64 c.args.most
 held c = search sfits_of
 
-sub-t3 : tie.Need-overflow-sub-t3
-sub-t3 c = rw (to_z-of_z w64 c.args.most (held c)) (negated (held c) c.requires)
+pub overflow_sub-result : goal.overflow_sub-result
+overflow_sub-result c = rw (to_z-of_z w64 c.args.most (held c)) (negated (held c) c.requires)
 
-returns : tie.Need-returns
+pub returns : goal.returns
 returns c = rw (to_z-of_z w64 c.args.most (held c)) (made (held c) c.requires c.args.shift)
-
-pub symmetric-spec : {M : Type 1} → statement M
-symmetric-spec = tie.close (tie.spec sub-t3 returns)
