@@ -64,9 +64,9 @@ module _ (station room : ℕ) (some-station : station ≡ 0 → ⊥) (enough : 9
   unfolding to_us
   is_to_us = rw (ne_eqb station 0 some-station) (eq-eqb station station refl)
 
-  read_asked : (r : ℕ) → judged (read_request station r) room station ≡ read_by (kind_said r) r
+  read-judged : (r : ℕ) → judged (read_request station r) room station ≡ read_by (kind_said r) r
   unfolding judged for_us framed read_asked access_asked
-  read_asked r =
+  read-judged r =
       let even : ((2 * r) / 256 * 256 + (2 * r) % 256) % 2 ≡ 0 = omega arith in
       let half : register_of (read_request station r) ≡ r = omega arith in
       rw (le-ltb room 9 enough, is_to_us, framed-checked (asking station 3 r), eq-eqb _ 0 even, half) (read-by (access_of r) r ∙ ap (λ (k : Kind). read_by k r) (ends-hold.kinds r))
@@ -85,8 +85,8 @@ module _ (station room : ℕ) (some-station : station ≡ 0 → ⊥) (enough : 9
 
   reads-asked : ReadsAsked station room
   reads-asked = record {
-    listed = λ r h. read_asked r ∙ listed_by (kind_said r) r h;
-    unlisted = λ r h. read_asked r ∙ ap (λ (k : Kind). read_by k r) h;
+    listed = λ r h. read-judged r ∙ listed_by (kind_said r) r h;
+    unlisted = λ r h. read-judged r ∙ ap (λ (k : Kind). read_by k r) h;
     elsewhere = read-elsewhere;
   }
 

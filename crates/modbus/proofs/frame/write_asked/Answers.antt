@@ -11,15 +11,14 @@ use Rattle.register.specs.Number.{SZ}
 use Rattle.register.specs.Register.{access_of, range_in}
 use Rattle.register.specs.declared.Access.TheVariants.{Unlisted}
 use Rattle.register.proofs.Registers.{access-computable}
-use borrow.Author.Rules.{rules}
 use borrow.Author.Tests.{eq-eqb, ne_eqb}
 use lib.ListN.{length}
 use lib.Ieee.{Float}
 use Rattle.register.specs.declared.Access.{Access}
 use Rattle.integers.specs.Bytes.{byte_at}
 use Rattle.modbus.specs.Frame.{word_at, value_of, access_asked, register_of, write_of, write_asked}
-use Rattle.modbus.proofs.frame.write_asked.Statement.{statement}
-use Rattle.modbus.proofs.frame.write_asked.Tie as tie
+use Rattle.modbus.proofs.frame.write_asked.Goals.{After-word_at-address}
+use Rattle.modbus.proofs.frame.write_asked.Goals as goal
 
 -- a frame of the right length, quantity and byte count
 good : (s : List ℕ) (x : Float) → length s ≡ 13 → word_at s 4 ≡ 2 → byte_at s 6 ≡ 4 → x ≡ value_of s → write_of (access_asked s) (register_of s) x ≡ write_asked s
@@ -39,30 +38,36 @@ unfolding access_asked
 asked-computable s e = rw e (pick (eqb (word_at s 2 % 2) 0) (access_of (register_of s)) Unlisted (λ a. Computable (range_in a)) (λ h. access-computable (access_of (register_of s)) (register_of s) (inl refl)) (λ h. access-computable Unlisted 0 (inr refl)))
 
 -- where the address is known
-abbrev frame_at : tie.After-word-at2 → List ℕ
-frame_at w = w.before.before.before.before.before.before.before.before.before.before.before.before.args.frame.now
+abbrev frame_at : After-word_at-address → List ℕ
+frame_at w = w.args.frame.now
 
-good-at : (w : tie.After-word-at2) → write_of (access_asked (frame_at w)) (register_of (frame_at w)) w.before.float-of-bytes.result ≡ write_asked (frame_at w)
+good-at : (w : After-word_at-address) → write_of (access_asked (frame_at w)) (register_of (frame_at w)) w.float_of_bytes-x.result ≡ write_asked (frame_at w)
 good-at w =
-    let e = w.before.before.before.before.before.before in
-    let v = e.before.before.before in
-    good (frame_at w) w.before.float-of-bytes.result v.before.if1.false (sym v.word_at.ensures ∙ e.before.before.if2.false) e.if3.false w.before.float-of-bytes.ensures
+    let e = w in
+    let v = e in
+    good (frame_at w) w.float_of_bytes-x.result v.if-frame-ne13.false (sym v.word_at.ensures ∙ e.if-word_at-ne2.false) e.if-frame-ne4.false w.float_of_bytes-x.ensures
 
-returns-5 : tie.Need-returns-5
-returns-5 c =
-    let w = c.before.before.before in
-    c.write-of.ensures ∙ to-other (frame_at w) c.before.access-asked.result w.word-at2.result w.before.float-of-bytes.result c.before.access-asked.ensures w.word-at2.ensures ∙ good-at w
-
-pub write-asked-spec : {M : Type 1} → statement M
+pub returns-then-frame-ne13 : goal.returns-then-frame-ne13
 unfolding write_asked
-write-asked-spec =
-    tie.close
-    (tie.spec
-    (λ c. simp (ne_eqb _ _ c.if1.true)) (λ c κs. search rules)
-    (λ c. simp (eq-eqb _ _ c.before.before.if1.false, ne_eqb _ _ (λ e. c.if2.true (c.before.word_at.ensures ∙ e)))) (λ c. search rules)
-    (λ c. simp (eq-eqb _ _ c.before.before.before.before.if1.false, eq-eqb _ _ (sym c.before.before.before.word_at.ensures ∙ c.before.before.if2.false), ne_eqb _ _ c.if3.true))
-    (λ c. search rules) (λ c. search rules) (λ c. search rules) (λ c. search rules) (λ c κs. search rules) (λ c κs. search rules) (λ c. search rules)
-    (λ c κs. search rules)
-    (λ c. let w = c.before.before in c.zero-write.ensures ∙ to-zero (frame_at w) w.before.float-of-bytes.result (sym w.word-at2.ensures ∙ c.before.if4.true) ∙ good-at w)
-    (λ c κs. search rules)
-    (λ c κs. asked-computable (frame_at c.before.before) c.access-asked.ensures) returns-5)
+returns-then-frame-ne13 c = simp (ne_eqb _ _ c.if-frame-ne13.true)
+
+pub returns-then-word_at-ne2 : goal.returns-then-word_at-ne2
+unfolding write_asked
+returns-then-word_at-ne2 c = simp (eq-eqb _ _ c.if-frame-ne13.false, ne_eqb _ _ (λ e. c.if-word_at-ne2.true (c.word_at.ensures ∙ e)))
+
+pub returns-then-frame-ne4 : goal.returns-then-frame-ne4
+unfolding write_asked
+returns-then-frame-ne4 c = simp (eq-eqb _ _ c.if-frame-ne13.false, eq-eqb _ _ (sym c.word_at.ensures ∙ c.if-word_at-ne2.false), ne_eqb _ _ c.if-frame-ne4.true)
+
+pub returns-then-address : goal.returns-then-address
+unfolding write_asked
+returns-then-address c = let w = (goal.at.returns-then-address c).After-word_at-address in c.zero_write.ensures ∙ to-zero (frame_at w) w.float_of_bytes-x.result (sym w.word_at-address.ensures ∙ c.if-address.true) ∙ good-at w
+
+pub write_of-requires : goal.write_of-requires
+unfolding write_asked
+write_of-requires c = asked-computable (frame_at (goal.at.write_of-requires c).After-word_at-address) c.access_asked.ensures
+
+pub returns : goal.returns
+returns c =
+    let w = (goal.at.returns c).After-word_at-address in
+    c.write_of.ensures ∙ to-other (frame_at w) c.access_asked.result w.word_at-address.result w.float_of_bytes-x.result c.access_asked.ensures w.word_at-address.ensures ∙ good-at w

@@ -10,9 +10,8 @@ use Rattle.register.specs.declared.Access.TheVariants.{Unlisted, ReadOnly, Takes
 use Rattle.modbus.specs.declared.frame.Frame.TheVariants.{Read, Refused}
 use Rattle.register.specs.Register.{listed, access_of}
 use Rattle.modbus.specs.Frame.{word_at, access_asked, read_of, read_asked}
-use borrow.Author.Rules.{rules}
-use Rattle.modbus.proofs.frame.read_asked.Statement.{statement}
-use Rattle.modbus.proofs.frame.read_asked.Tie as tie
+use Rattle.modbus.proofs.frame.read_asked.Goals.{After-is_listed}
+use Rattle.modbus.proofs.frame.read_asked.Goals as goal
 
 by-listed : (a : Access) (r : ℕ) → cond (listed a) (Read r) (Refused 15) ≡ read_of a r
 by-listed Unlisted r = refl
@@ -32,25 +31,26 @@ odd : (s : List ℕ) (w : ℕ) → length s ≡ 8 → word_at s 4 ≡ 2 → w �
 unfolding read_asked access_asked
 odd s w n q e h = simp (eq-eqb _ _ n, eq-eqb _ _ q, ne_eqb (word_at s 2 % 2) 0 (λ g. h (ap (λ (k : ℕ). k % 2) e ∙ g)))
 
-returns : tie.Need-returns
-unfolding read_asked
-returns c = simp (ne_eqb _ _ c.if1.true)
-
-returns-2 : tie.Need-returns-2
-unfolding read_asked
-returns-2 c = simp (eq-eqb _ _ c.before.before.if1.false, ne_eqb _ _ (λ e. c.if2.true (c.before.word_at.ensures ∙ e)))
-
 -- at an even address
-listed_at : (c : tie.After-is-listed) (b : Bool) → c.is-listed.result ≡ b → cond b (Read (c.before.before.word-at2.result / 2)) (Refused 15) ≡ read_asked c.before.before.before.before.before.before.before.args.frame.now
+listed_at : (c : After-is_listed) (b : Bool) → c.is_listed.result ≡ b → cond b (Read (c.word_at-address.result / 2)) (Refused 15) ≡ read_asked c.args.frame.now
 listed_at c b e =
-    let w = c.before.before in
-    asked w.before.before.before.before.before.args.frame.now w.word-at2.result w.before.before.before.if1.false
-    (sym w.before.before.word_at.ensures ∙ w.before.if2.false) w.word-at2.ensures c.before.if3.true b (sym e ∙ c.is-listed.ensures)
+    let w = c in
+    asked w.args.frame.now w.word_at-address.result w.if-frame-ne8.false
+    (sym w.word_at.ensures ∙ w.if-word_at-ne2.false) w.word_at-address.ensures c.if-address-eq0.true b (sym e ∙ c.is_listed.ensures)
 
-pub read-asked-spec : {M : Type 1} → statement M
-read-asked-spec =
-    tie.close
-    (tie.spec returns (λ c κs. search rules) returns-2 (λ c κs. search rules) (λ c κs. search rules)
-    (λ c. listed_at c.before true c.if4.true)
-    (λ c. listed_at c.before false c.if4.false)
-    (λ c. odd c.before.before.before.before.before.before.args.frame.now c.before.word-at2.result c.before.before.before.before.if1.false (sym c.before.before.before.word_at.ensures ∙ c.before.before.if2.false) c.before.word-at2.ensures c.if3.false))
+pub returns-then-frame-ne8 : goal.returns-then-frame-ne8
+unfolding read_asked
+returns-then-frame-ne8 c = simp (ne_eqb _ _ c.if-frame-ne8.true)
+
+pub returns-then-word_at-ne2 : goal.returns-then-word_at-ne2
+unfolding read_asked
+returns-then-word_at-ne2 c = simp (eq-eqb _ _ c.if-frame-ne8.false, ne_eqb _ _ (λ e. c.if-word_at-ne2.true (c.word_at.ensures ∙ e)))
+
+pub returns-then-is_listed : goal.returns-then-is_listed
+returns-then-is_listed c = listed_at (goal.at.returns-then-is_listed c).After-is_listed true c.if-is_listed.true
+
+pub returns-else-is_listed : goal.returns-else-is_listed
+returns-else-is_listed c = listed_at (goal.at.returns-else-is_listed c).After-is_listed false c.if-is_listed.false
+
+pub returns-else-address-eq0 : goal.returns-else-address-eq0
+returns-else-address-eq0 c = odd c.args.frame.now c.word_at-address.result c.if-frame-ne8.false (sym c.word_at.ensures ∙ c.if-word_at-ne2.false) c.word_at-address.ensures c.if-address-eq0.false

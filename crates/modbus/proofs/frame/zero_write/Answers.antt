@@ -1,5 +1,4 @@
 -- `modbus::frame::zero_write` meets its contract: SZ's row of the table has the range that `zero_fits` tests. Assumes nothing.
-use borrow.Author.Rules.{rules}
 use mathlib.Core.Path.{◌≡◌, sym, ap, ◌∙◌}
 use mathlib.Core.Bool.{Bool, cond}
 use lib.Ieee.{Float}
@@ -8,18 +7,14 @@ use Rattle.modbus.specs.declared.frame.Frame.TheVariants.{Write, Refused}
 use Rattle.register.specs.Number.{SZ}
 use Rattle.register.specs.Register.{access_of}
 use Rattle.modbus.specs.Frame.{write_of}
-use Rattle.modbus.proofs.frame.zero_write.Statement.{statement}
-use Rattle.modbus.proofs.frame.zero_write.Tie as tie
+use Rattle.modbus.proofs.frame.zero_write.Goals as goal
 
 by-fit : (x : Float) {t : Bool} → t ≡ takes zero_range x → cond t (Write SZ x) (Refused 16) ≡ write_of (access_of SZ) SZ x
 unfolding write_of access_of
 by-fit x e = ap (λ (t : Bool). cond t (Write SZ x) (Refused 16)) e
 
-returns : tie.Need-returns
-returns c = by-fit c.before.before.args.x (sym c.if1.true ∙ c.before.zero-fits.ensures)
+pub returns-then-zero_fits : goal.returns-then-zero_fits
+returns-then-zero_fits c = by-fit c.args.x (sym c.if-zero_fits.true ∙ c.zero_fits.ensures)
 
-returns-2 : tie.Need-returns-2
-returns-2 c = by-fit c.before.before.args.x (sym c.if1.false ∙ c.before.zero-fits.ensures)
-
-pub zero-write-spec : {M : Type 1} → statement M
-zero-write-spec = tie.close (tie.spec (λ c κs. search rules) returns returns-2)
+pub returns : goal.returns
+returns c = by-fit c.args.x (sym c.if-zero_fits.false ∙ c.zero_fits.ensures)
