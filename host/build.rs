@@ -33,7 +33,10 @@ pub fn folder(dir: Option<OsString>) -> Result<PathBuf, String> {
     }
     for name in ARCHIVES {
         if !dir.join(format!("lib{name}.a")).is_file() {
-            return Err(format!("BOARD_LIB_DIR: no lib{name}.a in {}; `rt staticlib {name}` writes it", dir.display()));
+            return Err(format!(
+                "BOARD_LIB_DIR: no lib{name}.a in {}; `rt lib` in crates/{name} writes it",
+                dir.display()
+            ));
         }
     }
     Ok(dir)

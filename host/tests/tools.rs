@@ -273,7 +273,7 @@ fn the_folder_of_the_archive() {
         (None, set.to_string()),
         (Some(String::new()), set.to_string()),
         (Some("nosuch".into()), "BOARD_LIB_DIR: nosuch is not a folder".into()),
-        (Some(shown.clone()), format!("BOARD_LIB_DIR: no libboard.a in {shown}; `rt staticlib board` writes it")),
+        (Some(shown.clone()), format!("BOARD_LIB_DIR: no libboard.a in {shown}; `rt lib` in crates/board writes it")),
     ];
     for (dir, wrong) in table {
         assert_eq!(build::folder(dir.map(OsString::from)), Err(wrong));
@@ -282,7 +282,8 @@ fn the_folder_of_the_archive() {
     let _ = fs::remove_dir_all(&full);
     fs::create_dir_all(&full).expect("made");
     fs::write(full.join("libboard.a"), "").expect("written");
-    let half = format!("BOARD_LIB_DIR: no liblaboratory.a in {}; `rt staticlib laboratory` writes it", full.display());
+    let half =
+        format!("BOARD_LIB_DIR: no liblaboratory.a in {}; `rt lib` in crates/laboratory writes it", full.display());
     assert_eq!(build::folder(Some(full.clone().into())), Err(half));
     fs::write(full.join("liblaboratory.a"), "").expect("written");
     assert_eq!(build::folder(Some(full.clone().into())), Ok(full));
