@@ -3,10 +3,10 @@
  * cell is pulled as it is pushed, sheets with an identity, flags that outlive RST, readings by a platinum probe, and a
  * SYS that never falls where ELEC rises (paper 02, Changes 1, 2, 4 to 8 and 14), proved in Rattle.
  *
- * Link the archive libboard.a (`rt staticlib board`, x86-64) for devices, and liblaboratory.a (`rt staticlib
- * laboratory`) for the calls on sheets, which firmware need not carry; either one alone, or both. There is no heap and
- * no global state: everything that a device is stands in one record that the caller keeps, for as long as it likes and
- * where it likes. A call runs to its end on the caller's stack, and two devices are independent of each other.
+ * Link the archive libboard.a (`rt lib` in crates/board, x86-64) for devices, and liblaboratory.a (`rt lib` in
+ * crates/laboratory) for the calls on sheets, which firmware need not carry; either one alone, or both. There is no heap
+ * and no global state: everything that a device is stands in one record that the caller keeps, for as long as it likes
+ * and where it likes. A call runs to its end on the caller's stack, and two devices are independent of each other.
  *
  * What a caller has to keep:
  * - Pointers are not null and point to what they are said to; lengths are true.
