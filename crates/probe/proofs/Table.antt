@@ -8,11 +8,11 @@ use lib.IntN.{ℤ, pos, neg_ℤ, ◌+ℤ◌, ◌-ℤ◌, ◌*ℤ◌}
 use lib.ListN.{length, get_or, get_or-map}
 use lib.Signed.{◌≤ℤ◌, ◌<ℤ◌}
 use mir.Syntax.{w64}
-use mir.Val.{SFits, to_z, of_z}
+use mir.Val.{to_z, of_z}
 use mir.ValLaws.{to_z_pos}
 use Rattle.integers.specs.Within.{◌within◌}
 use Rattle.integers.proofs.Difference.{◌⊕◌, ◌⊝◌, ◌⊗◌, nat, minus, eq! }
-use Rattle.integers.proofs.Machine.{known, literal, sum, stored, fits, plain, i64s}
+use Rattle.integers.proofs.Machine.{known, literal, sum, stored, plain, i64s}
 use Rattle.integers.proofs.Order.{yes_le, no_le}
 use Rattle.arithmetic.specs.Table.{column, place, line, between}
 use Rattle.arithmetic.specs.ForCode.{Segment}
@@ -50,14 +50,11 @@ module _ (k : ℕ) (l : k < 201) where
     number-within = rw number_is entry-within
 
     -- read as an i64
-    pub read_fits : SFits w64 (pos (get_or xs k 0))
-    read_fits = fits (known number-within) tt
-
     pub read_is : to_z w64 (get_or xs k 0) ≡ entry (celsius k)
     read_is = to_z_pos w64 (get_or xs k 0) (omega (arith, number-within.abs)) ∙ number_is
 
 -- the °C as the code counts it
-pub index-within : (k : ℕ) → k < 201 → (to_z w64 k) within 200
+index-within : (k : ℕ) → k < 201 → (to_z w64 k) within 200
 index-within k l = rw (to_z_pos w64 k (omega arith)) (record { abs = omega arith })
 
 pub counted_is : (k : ℕ) → k < 201 → to_z w64 (of_z w64 (to_z w64 (of_z w64 (to_z w64 k -ℤ pos 50)) *ℤ pos 65536)) ≡ celsius k *ℤ degree

@@ -1,5 +1,6 @@
 // The platinum probe beside a cell (02, Change 8): resistance in 0.0001 ohm, and the TEMP that it stands for.
 #![tactic(auto)]
+
 ghost use Rattle.std.specs.Prelude.{◌≡◌};
 ghost use Rattle.probe.specs.Probe.{is_beyond, temp_of};
 
@@ -212,6 +213,7 @@ const RESISTANCES: [u32; 201] = [
 ];
 
 // 20: a resistance below that of −50 °C or above that of 150 °C.
+#[tactic(auto, unfolding(crate::specs::Probe::is_beyond))]
 pub fn is_beyond(resistance: i64) -> bool
     ensures { result ≡ is_beyond resistance }
 {
