@@ -1,5 +1,6 @@
 // The figures on the bus (Change 1): which figure a register is, how it reads, and the figures with one of them written.
 #![tactic(auto)]
+
 ghost use Rattle.std.specs.Prelude.{◌≡◌, ◌<◌, nat_abs};
 ghost use Rattle.integers.specs.Within.{◌within◌};
 ghost use Rattle.figures.specs.Unused.{no_linearity, no_temperature, used, unused_zero};

@@ -16,9 +16,8 @@ use Rattle.binary32.specs.declared.received.Range.{Range}
 use Rattle.register.specs.Register.{range_of}
 use Rattle.register.proofs.Registers.{range-computable, whole-range, step_range}
 use Rattle.panel.specs.Figure.{figure_at, figure_float}
-use borrow.Author.Rules.{rules}
-use Rattle.panel.proofs.figure_float.Statement.{statement}
-use Rattle.panel.proofs.figure_float.Tie as tie
+use Rattle.panel.proofs.figure_float.Goals.{After-range_of-range}
+use Rattle.panel.proofs.figure_float.Goals as goal
 
 in-steps : (c : Calibration) (n : ℕ) {z : ℤ} → (range_of n).shift ≡ 16 → (figure_at c n) within (nat_abs (range_of n).most) → z ≡ figure_at c n → z within 4194304000
 in-steps c n k h e = rw e (record { abs = le_trans h.abs (step_range n k) })
@@ -47,50 +46,44 @@ shift-not : (n k : ℕ) {r : Range} → r ≡ range_of n → (r.shift ≡ k → 
 shift-not n k e h g = h (rw e g)
 
 -- after both calls: the figure, and the scale
-figure-is : (r : tie.After-range-of) → to_z w64 (of_z w64 r.before.figure-at.result) ≡ figure_at r.before.before.args.c r.before.before.args.register
-figure-is r = held r.before.figure-at.type-inv r.before.figure-at.ensures
+figure-is : (r : After-range_of-range) → to_z w64 (of_z w64 r.figure_at-figure.result) ≡ figure_at r.args.c r.args.register
+figure-is r = held r.figure_at-figure.type_inv r.figure_at-figure.ensures
 
-whole-at : (r : tie.After-range-of) → (r.range-of.result.shift ≡ 28 → ⊥) → (r.range-of.result.shift ≡ 16 → ⊥)
-    → let n = r.before.before.args.register in ((range_of n).shift ≡ 0) × (nat_abs (range_of n).most ≤ 65535)
-whole-at r p q = let n = r.before.before.args.register in whole-range n (shift-not n 28 r.range-of.ensures p) (shift-not n 16 r.range-of.ensures q)
+whole-at : (r : After-range_of-range) → (r.range_of-range.result.shift ≡ 28 → ⊥) → (r.range_of-range.result.shift ≡ 16 → ⊥)
+    → let n = r.args.register in ((range_of n).shift ≡ 0) × (nat_abs (range_of n).most ≤ 65535)
+whole-at r p q = let n = r.args.register in whole-range n (shift-not n 28 r.range_of-range.ensures p) (shift-not n 16 r.range_of-range.ensures q)
 
-float-of-parts-requires : tie.Need-float-of-parts-requires
-float-of-parts-requires c κs = let r = c.before.before in let s = r.before.before in in-scale s.args.c s.args.register s.requires (figure-is r)
+pub float_of_parts-requires : goal.float_of_parts-requires
+float_of_parts-requires c = let r = (goal.at.float_of_parts-requires c).After-range_of-range in let s = r in in-scale s.args.c s.args.register s.requires (figure-is r)
 
-returns : tie.Need-returns
-returns c =
-    let r = c.before.before.before in
-    let a = r.before.before.args in
-    c.float-of-parts.ensures ∙ at-scale a.c a.register 28 (shift_is a.register 28 r.range-of.ensures c.before.if1.true) (figure-is r)
+pub returns-then-range-eq28 : goal.returns-then-range-eq28
+returns-then-range-eq28 c =
+    let r = (goal.at.returns-then-range-eq28 c).After-range_of-range in
+    let a = r.args in
+    c.float_of_parts.ensures ∙ at-scale a.c a.register 28 (shift_is a.register 28 r.range_of-range.ensures c.if-range-eq28.true) (figure-is r)
 
-float-of-steps-requires : tie.Need-float-of-steps-requires
-float-of-steps-requires c κs =
-    let r = c.before.before.before.before in
-    let s = r.before.before in
-    in-steps s.args.c s.args.register (shift_is s.args.register 16 r.range-of.ensures c.if2.true) s.requires (figure-is r)
+pub float_of_steps-requires : goal.float_of_steps-requires
+float_of_steps-requires c =
+    let r = (goal.at.float_of_steps-requires c).After-range_of-range in
+    let s = r in
+    in-steps s.args.c s.args.register (shift_is s.args.register 16 r.range_of-range.ensures c.if-range-eq16.true) s.requires (figure-is r)
 
-returns-2 : tie.Need-returns-2
-returns-2 c =
-    let r = c.before.before.before.before.before in
-    let a = r.before.before.args in
-    c.float-of-steps.ensures ∙ at-scale a.c a.register 16 (shift_is a.register 16 r.range-of.ensures c.before.if2.true) (figure-is r)
+pub returns-then-range-eq16 : goal.returns-then-range-eq16
+returns-then-range-eq16 c =
+    let r = (goal.at.returns-then-range-eq16 c).After-range_of-range in
+    let a = r.args in
+    c.float_of_steps.ensures ∙ at-scale a.c a.register 16 (shift_is a.register 16 r.range_of-range.ensures c.if-range-eq16.true) (figure-is r)
 
-int-to-float-result : tie.Need-int-to-float-result
-int-to-float-result c =
-    let r = c.before.before.before.before.before in
-    let s = r.before.before in
-    let w = whole-at r c.before.before.before.if1.false c.before.if2.false in
+pub int_to_float-result : goal.int_to_float-result
+int_to_float-result c =
+    let r = (goal.at.int_to_float-result c).After-range_of-range in
+    let s = r in
+    let w = whole-at r c.if-range-eq28.false c.if-range-eq16.false in
     rw (figure-is r) (whole_in (figure_at s.args.c s.args.register) (le_trans s.requires.abs w.1))
 
-returns-3 : tie.Need-returns-3
-returns-3 c =
-    let r = c.before.before.before.before.before in
-    let a = r.before.before.args in
-    let w = whole-at r c.before.before.before.if1.false c.before.if2.false in
+pub returns : goal.returns
+returns c =
+    let r = (goal.at.returns c).After-range_of-range in
+    let a = r.args in
+    let w = whole-at r c.if-range-eq28.false c.if-range-eq16.false in
     ap (of_int binary32) (figure-is r) ∙ whole_float (figure_at a.c a.register) ∙ at-scale a.c a.register 0 w.0 refl
-
-pub figure-float-spec : {M : Type 1} → statement M
-figure-float-spec =
-    tie.close
-    (tie.spec (λ c κs. search rules) (λ c κs. search rules) float-of-parts-requires returns float-of-steps-requires
-    returns-2 int-to-float-result returns-3)

@@ -13,9 +13,7 @@ use Rattle.register.proofs.Registers.{range-computable}
 use Rattle.panel.specs.Figure.{with_figure, written}
 use Rattle.panel.specs.ForCode.{Counts}
 use Rattle.panel.proofs.Places.{counts-written}
-use borrow.Author.Rules.{rules}
-use Rattle.panel.proofs.write.Statement.{statement}
-use Rattle.panel.proofs.write.Tie as tie
+use Rattle.panel.proofs.write.Goals as goal
 
 of_range : (n : ℕ) {r : Range} → r ≡ range_of n → Computable r
 of_range n e = rw e (range-computable n)
@@ -27,14 +25,11 @@ made : (c : Calibration) (n : ℕ) (x : Float) {r : Range} {z : ℤ} {d : Calibr
 unfolding written
 made c n x e h g = rw (g, h, e)
 
-count-requires : tie.Need-count-requires
-count-requires c κs = of_range c.before.args.register c.range-of.ensures
+pub count-z-requires : goal.count-z-requires
+count-z-requires c = of_range c.args.register c.range_of-range.ensures
 
-with-figure-requires : tie.Need-with-figure-requires
-with-figure-requires c κs = let s = c.before.before in of-count s.args.register s.args.x c.before.range-of.ensures (held c.count.type-inv c.count.ensures)
+pub with_figure-requires : goal.with_figure-requires
+with_figure-requires c = let s = c in of-count s.args.register s.args.x c.range_of-range.ensures (held c.count-z.type_inv c.count-z.ensures)
 
-returns : tie.Need-returns
-returns c = let s = c.before.before.before in made s.args.c s.args.register s.args.x c.before.before.range-of.ensures (held c.before.count.type-inv c.before.count.ensures) c.with-figure.ensures
-
-pub write_spec : {M : Type 1} → statement M
-write_spec = tie.close (tie.spec (λ c κs. search rules) count-requires with-figure-requires returns)
+pub returns : goal.returns
+returns c = let s = c in made s.args.c s.args.register s.args.x c.range_of-range.ensures (held c.count-z.type_inv c.count-z.ensures) c.with_figure.ensures
