@@ -2,7 +2,7 @@
 use Rattle.std.proofs.Common.{◌≡◌, ℕ, ◌-◌, ◌≤◌, Bool, true, false, cond, List, length, take, drop, pos, sym, refl, ap, ◌∙◌, subst, arith, length-drop, take_all, ne_eqb}
 use Rattle.sheet.specs.Bytes.{count_at}
 use Rattle.sheet.specs.Places.{identity_size}
-use Rattle.sheet.specs.Judge.{◌then◌, short_of, out_of_range, wrong_count, count_number, range_number}
+use Rattle.sheet.specs.Judge.{short_of, out_of_range, wrong_count, count_number, range_number}
 use Rattle.sheet.specs.Read.{old_number, no_figures, read_old}
 use Rattle.sheet.specs.Forms.{serial_most, day_most, identity_at, identity_number, given_number, own_identity_number, is_new, new_number, sheet_number, old_of, read_sheet, no_identity, contents_of}
 use Rattle.sheet.specs.BothForms.{InRange}

@@ -1,10 +1,10 @@
 -- From a sheet whose counts are right and which is as long as they say, to the bytes of what it says: they are the sheet.
 -- Assumes nothing.
-use Rattle.std.proofs.Common.{◌≡◌, ℕ, ◌+◌, ◌*◌, ◌≤◌, min, List, [], ◌++◌, length, drop, sym, refl, ◌∙◌, append_assoc, append-nil, arith}
+use Rattle.std.proofs.Common.{◌≡◌, ℕ, ◌+◌, ◌*◌, ◌≤◌, min, List, [], ◌++◌, length, drop, sym, subst, refl, ◌∙◌, append_assoc, append-nil, arith}
 use lib.Seq.{drop-length}
 use Rattle.figures.specs.Unused.{no_linearity, no_temperature}
 use Rattle.sheet.specs.Bytes.{count_at, Bytes}
-use Rattle.sheet.specs.Places.{temperature_start, linearity_start, system_start, filter_start, sheet_end}
+use Rattle.sheet.specs.Places.{temperature_point_size, linearity_point_size, temperature_start, linearity_start, system_start, filter_start, sheet_end}
 use Rattle.sheet.specs.Read.{cell_at, temperature_point_at, linearity_point_at, points_at, temperature_at, linearity_at, system_at, filter_at, figures_of, ctn_of, cln_of}
 use Rattle.sheet.specs.Write.{cell_bytes, temperature_point_bytes, linearity_point_bytes, temperature_bytes, linearity_bytes, system_bytes, filter_bytes, sheet_bytes}
 use Rattle.sheet.proofs.EightBytes.{glue, glue-count}
@@ -52,7 +52,7 @@ module _ (s : List ℕ) (b : Bytes s) where
       let k = count_at s at in
       let m : min k 5 ≡ k = omega arith in
       let t = points-glue no_temperature temperature_point_at temperature_point_bytes 24 s (at + 1) (points_at no_temperature temperature_point_at 24 5 s (at + 1) k) k temperature-point-glue (λ i h. points-at no_temperature temperature_point_at 24 5 s (at + 1) k i n h) l r in
-      rw m (glue-count s at (at + 1) refl (omega arith) t)
+      subst (λ x. drop at s ≡ temperature_bytes (record { ctn = k; points = points_at no_temperature temperature_point_at temperature_point_size 5 s (at + 1) x }) ++ rest) (sym m) (glue-count s at (at + 1) refl (omega arith) t)
 
   linearity-glue : (at : ℕ) {rest : List ℕ} → count_at s at ≤ 7 → at + 1 + 16 * count_at s at ≤ length s → drop (at + 1 + 16 * count_at s at) s ≡ rest → drop at s ≡ linearity_bytes (linearity_at s at) ++ rest
   unfolding linearity_at linearity_bytes
@@ -60,7 +60,7 @@ module _ (s : List ℕ) (b : Bytes s) where
       let k = count_at s at in
       let m : min k 7 ≡ k = omega arith in
       let t = points-glue no_linearity linearity_point_at linearity_point_bytes 16 s (at + 1) (points_at no_linearity linearity_point_at 16 7 s (at + 1) k) k linearity-point-glue (λ i h. points-at no_linearity linearity_point_at 16 7 s (at + 1) k i n h) l r in
-      rw m (glue-count s at (at + 1) refl (omega arith) t)
+      subst (λ x. drop at s ≡ linearity_bytes (record { cln = k; points = points_at no_linearity linearity_point_at linearity_point_size 7 s (at + 1) x }) ++ rest) (sym m) (glue-count s at (at + 1) refl (omega arith) t)
 
   -- a sheet whose counts are right, and which ends where they say
   pub record Complete : Type 0 where

@@ -23,4 +23,3 @@ mod DefaultBytes
 pub mod Steps
 pub mod CursorGoes
 pub mod Apart
-mod Stepped

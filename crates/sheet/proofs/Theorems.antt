@@ -8,7 +8,7 @@ use Rattle.sheet.specs.declared.Identity.{Identity}
 use Rattle.sheet.specs.declared.Sheet.{Sheet}
 use Rattle.sheet.specs.Bytes.{count_at, Bytes}
 use Rattle.sheet.specs.Places.{identity_size}
-use Rattle.sheet.specs.Judge.{◌then◌, figures_number}
+use Rattle.sheet.specs.Judge.{figures_number}
 use Rattle.sheet.specs.Read.{read_old, no_figures}
 use Rattle.sheet.specs.Write.{cell_bytes, sheet_bytes}
 use Rattle.sheet.specs.Forms.{identity_at, identity_bytes, own_identity_number, is_new, new_number, sheet_number, old_of, read_sheet}

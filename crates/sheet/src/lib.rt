@@ -1,6 +1,7 @@
 // The calibration sheet (01, "The calibration sheet"; 02, Change 6): bytes to figures, and the judgement of figures. `sheet_writer`
 // writes one.
 #![tactic(auto)]
+
 ghost use Rattle.std.specs.Prelude.{◌≡◌};
 ghost use Rattle.sheet.specs.Step.{started, count_step, figure_step};
 

@@ -1,6 +1,7 @@
 // Writing a calibration sheet (01, "The calibration sheet") straight into a lent buffer: a section is its count, one byte, and then
 // its figures.
 #![tactic(auto)]
+
 ghost use Rattle.std.specs.Prelude.{◌≡◌, ◌++◌, ◌+◌, ◌*◌, ◌≤◌, length};
 ghost use Rattle.integers.specs.Bytes.{Put};
 ghost use Rattle.figures.specs.Unused.{no_linearity, no_temperature};

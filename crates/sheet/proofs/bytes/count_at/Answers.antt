@@ -1,6 +1,6 @@
 -- Past the end the count is 0. Assumes nothing.
 use lib.ListN.{get_or-eq_default}
-use Rattle.std.proofs.Common.{sym, rules}
+use Rattle.std.proofs.Common.{sym}
 use Rattle.sheet.proofs.bytes.count_at.Goals as goal
 
 pub returns : goal.returns

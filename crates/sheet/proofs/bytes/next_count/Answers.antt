@@ -1,6 +1,6 @@
 -- The byte where it is there, and 1 where it is not. Assumes nothing.
 use Rattle.sheet.specs.Step.{count_found}
-use Rattle.std.proofs.Common.{rules, le-ltb, lt-ltb}
+use Rattle.std.proofs.Common.{le-ltb, lt-ltb}
 use Rattle.sheet.proofs.bytes.next_count.Goals as goal
 
 pub returns-then-s-at : goal.returns-then-s-at

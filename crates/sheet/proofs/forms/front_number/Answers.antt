@@ -1,5 +1,5 @@
 -- By the form. Assumes nothing.
-use Rattle.std.proofs.Common.{sym, ◌∙◌, rules}
+use Rattle.std.proofs.Common.{sym, ◌∙◌}
 use Rattle.sheet.proofs.forms.front_number.Goals as goal
 
 pub returns-then-is_new : goal.returns-then-is_new

@@ -1,5 +1,4 @@
 -- The first count tells the form. Assumes nothing.
-use Rattle.std.proofs.Common.{rules}
 use Rattle.sheet.proofs.forms.is_new.Goals as goal
 
 pub returns : goal.returns

@@ -1,5 +1,5 @@
 -- With room for a whole section nothing is missing. Assumes nothing.
-use Rattle.std.proofs.Common.{◌∙◌, arith, rules}
+use Rattle.std.proofs.Common.{◌∙◌, arith}
 use Rattle.sheet.specs.Judge.{short_of}
 use Rattle.sheet.proofs.Numbers.{in-short}
 use Rattle.sheet.proofs.EitherForm.{whole-identity}

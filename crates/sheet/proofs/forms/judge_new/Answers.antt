@@ -1,5 +1,5 @@
 -- The identity, then the old sheet behind it. Assumes nothing.
-use Rattle.std.proofs.Common.{sym, ap, ◌∙◌, rules}
+use Rattle.std.proofs.Common.{sym, ap, ◌∙◌}
 use Rattle.sheet.specs.Places.{identity_size}
 use Rattle.sheet.specs.Read.{old_number}
 use Rattle.sheet.specs.Forms.{new_number}

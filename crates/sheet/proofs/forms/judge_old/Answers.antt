@@ -1,5 +1,5 @@
 -- The number that is read. Assumes nothing.
-use Rattle.std.proofs.Common.{ap, rules}
+use Rattle.std.proofs.Common.{ap}
 use Rattle.sheet.specs.Read.{read_old}
 use Rattle.sheet.specs.declared.Sheet.{Sheet}
 use Rattle.sheet.proofs.forms.judge_old.Goals as goal

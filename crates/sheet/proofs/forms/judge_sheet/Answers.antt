@@ -1,5 +1,5 @@
 -- The number that is read. Assumes nothing.
-use Rattle.std.proofs.Common.{ap, rules}
+use Rattle.std.proofs.Common.{ap}
 use Rattle.sheet.specs.Forms.{read_sheet}
 use Rattle.sheet.specs.declared.Sheet.{Sheet}
 use Rattle.sheet.proofs.forms.judge_sheet.Goals as goal

@@ -1,6 +1,5 @@
 -- The count and the identity that stand in front. Assumes nothing.
 use Rattle.sheet.specs.Forms.{own_identity_number}
-use Rattle.std.proofs.Common.{rules}
 use Rattle.sheet.proofs.forms.own_identity_number.Goals as goal
 
 pub returns : goal.returns

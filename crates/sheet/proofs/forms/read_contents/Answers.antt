@@ -1,5 +1,5 @@
 -- What is read, and what stands in front of it. Assumes nothing.
-use Rattle.std.proofs.Common.{true, false, sym, ◌∙◌, rules}
+use Rattle.std.proofs.Common.{true, false, sym, ◌∙◌}
 use Rattle.sheet.proofs.EitherForm.{tells_none, tells}
 use Rattle.sheet.proofs.forms.read_contents.Goals as goal
 

@@ -1,6 +1,6 @@
 -- A count: 1, then 2. Assumes nothing.
 use Rattle.sheet.specs.Judge.{short_of, wrong_count}
-use Rattle.std.proofs.Common.{rules, le-ltb, lt-ltb}
+use Rattle.std.proofs.Common.{le-ltb, lt-ltb}
 use Rattle.sheet.proofs.judgement.count_number.Goals as goal
 
 pub returns-then-room-at : goal.returns-then-room-at

@@ -1,5 +1,5 @@
 -- −most to most. Assumes nothing.
-use Rattle.std.proofs.Common.{◌≡◌, ◌^◌, pos, ◌-ℤ◌, neg_ℤ, ◌∙◌, arith, to_z-of_z, w64, to_z, of_z, rules}
+use Rattle.std.proofs.Common.{◌≡◌, ◌^◌, pos, ◌-ℤ◌, neg_ℤ, ◌∙◌, arith, to_z-of_z, w64, to_z, of_z}
 use Rattle.integers.proofs.Difference.{◌⊝◌, eq!, minus, nat, ⟨◌⟩}
 use Rattle.integers.proofs.Machine.{fits, i64s, plain}
 use Rattle.integers.specs.Within.{◌within◌}

@@ -3,7 +3,7 @@ use Rattle.sheet.proofs.Numbers.{in-short}
 use Rattle.sheet.proofs.Whole.{sections-whole}
 use Rattle.sheet.specs.Places.{sheet_length}
 use Rattle.sheet.specs.Judge.{figures_number, short_of}
-use Rattle.std.proofs.Common.{◌∙◌, rules}
+use Rattle.std.proofs.Common.{◌∙◌}
 use Rattle.sheet.proofs.judgement.judge.Goals as goal
 
 pub returns : goal.returns

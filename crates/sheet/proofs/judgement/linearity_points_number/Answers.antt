@@ -1,7 +1,7 @@
 -- Invariant: the number is that of the points before. Assumes nothing.
-use Rattle.std.proofs.Common.{◌≡◌, ◌+◌, ◌-◌, ◌*◌, ◌≤◌, sym, refl, ap, ◌∙◌, ap₂, arith}
+use Rattle.std.proofs.Common.{◌≡◌, sym, refl, ap, ◌∙◌, ap₂, arith}
 use Rattle.sheet.proofs.Chain.{points-next}
-use Rattle.sheet.specs.Judge.{◌then◌, linearity_point_number, points_number, short_of}
+use Rattle.sheet.specs.Judge.{◌then◌, points_number}
 use Rattle.sheet.proofs.judgement.linearity_points_number.Goals as goal
 
 pub loop-i-init : goal.loop-i-init

@@ -1,7 +1,6 @@
 -- Invariant: the number is that of the points before. Assumes nothing.
-use Rattle.std.proofs.Common.{◌≡◌, ◌+◌, ◌-◌, ◌*◌, ◌≤◌, sym, refl, ap, ◌∙◌, ap₂, arith}
-use Rattle.sheet.proofs.Chain.{points-next}
-use Rattle.sheet.specs.Judge.{◌then◌, linearity_point_number, points_number, short_of}
+use Rattle.std.proofs.Common.{◌≡◌, ◌+◌, ◌-◌, ◌*◌, ◌≤◌}
+use Rattle.sheet.specs.Judge.{linearity_point_number, points_number, short_of}
 use Rattle.sheet.proofs.judgement.linearity_points_number.Given as goal
 
 abbrev pub invariant-loop-i : goal.invariant-loop-i

@@ -1,5 +1,4 @@
 -- The test of two figures is the definition's. Assumes nothing.
-use Rattle.integers.proofs.Machine.{fits}
 use Rattle.sheet.specs.Judge.{not_below}
 use lib.Signed.{lt_z}
 use Rattle.std.proofs.Common.{◌≡◌, true, false, to_z-of_z}

@@ -1,7 +1,6 @@
 -- A figure: 1, then 3. Assumes nothing.
-use Rattle.integers.proofs.Machine.{fits}
 use Rattle.sheet.specs.Judge.{out_of_range, short_of}
-use Rattle.std.proofs.Common.{◌≡◌, true, false, to_z-of_z, rules, le-ltb, lt-ltb}
+use Rattle.std.proofs.Common.{◌≡◌, true, false, to_z-of_z, le-ltb, lt-ltb}
 use lib.Signed.{lt_z}
 use Rattle.sheet.proofs.judgement.range_number.Goals as goal
 

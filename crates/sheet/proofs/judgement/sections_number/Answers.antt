@@ -1,6 +1,6 @@
 -- Each section's number is its definition's, and the first fault counts. Assumes nothing.
 use Rattle.sheet.specs.Judge.{◌then◌, sections_number}
-use Rattle.std.proofs.Common.{◌∙◌, ap₂, rules}
+use Rattle.std.proofs.Common.{◌∙◌, ap₂}
 use Rattle.sheet.proofs.judgement.sections_number.Goals as goal
 
 pub returns : goal.returns

@@ -1,5 +1,5 @@
 -- The count, then the points. Assumes nothing.
-use Rattle.std.proofs.Common.{◌+◌, sym, ◌∙◌, arith, rules}
+use Rattle.std.proofs.Common.{◌+◌, sym, ◌∙◌, arith}
 use Rattle.sheet.proofs.Chain.{pass, stop, then-none}
 use Rattle.sheet.proofs.Numbers.{count-in}
 use Rattle.sheet.specs.Judge.{short_of, temperature_number}

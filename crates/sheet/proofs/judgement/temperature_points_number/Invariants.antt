@@ -1,7 +1,6 @@
 -- Invariant: the number is that of the points before. Assumes nothing.
-use Rattle.std.proofs.Common.{◌≡◌, ◌+◌, ◌-◌, ◌*◌, ◌≤◌, sym, refl, ap, ◌∙◌, ap₂, arith}
-use Rattle.sheet.proofs.Chain.{points-next}
-use Rattle.sheet.specs.Judge.{◌then◌, points_number, short_of, temperature_point_number}
+use Rattle.std.proofs.Common.{◌≡◌, ◌+◌, ◌-◌, ◌*◌, ◌≤◌}
+use Rattle.sheet.specs.Judge.{points_number, short_of, temperature_point_number}
 use Rattle.sheet.proofs.judgement.temperature_points_number.Given as goal
 
 abbrev pub invariant-loop-i : goal.invariant-loop-i

@@ -1,7 +1,7 @@
 -- The count that stands behind the temperature points. Assumes nothing.
 use Rattle.sheet.specs.Bytes.{count_at}
 use Rattle.sheet.specs.Places.{linearity_start}
-use Rattle.std.proofs.Common.{ap, ◌∙◌, rules}
+use Rattle.std.proofs.Common.{ap, ◌∙◌}
 use Rattle.sheet.proofs.reading.cln_of.Goals as goal
 
 pub returns : goal.returns

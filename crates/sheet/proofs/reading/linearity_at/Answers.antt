@@ -1,6 +1,5 @@
 -- The count, and as many points as the array has. Assumes nothing.
 use Rattle.sheet.specs.Read.{linearity_at}
-use Rattle.std.proofs.Common.{rules}
 use Rattle.sheet.proofs.reading.linearity_at.Goals as goal
 
 pub returns : goal.returns

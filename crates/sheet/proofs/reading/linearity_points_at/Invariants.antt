@@ -1,7 +1,6 @@
 -- Invariant: the points before are filled in. Assumes nothing.
-use Rattle.std.proofs.Common.{◌≡◌, ◌-◌, ◌≤◌, sym, refl, ap, ◌∙◌, arith}
+use Rattle.std.proofs.Common.{◌≡◌, ◌-◌, ◌≤◌}
 use Rattle.figures.specs.Unused.{no_linearity}
-use Rattle.sheet.proofs.Chain.{points-at-next}
 use Rattle.sheet.specs.Read.{linearity_point_at, points_at}
 use Rattle.sheet.proofs.reading.linearity_points_at.Given as goal
 

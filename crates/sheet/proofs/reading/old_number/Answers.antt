@@ -1,5 +1,5 @@
 -- The sections' first fault, then 7. Assumes nothing.
-use Rattle.std.proofs.Common.{◌≡◌, ℕ, List, length, sym, rules, le-ltb, lt-ltb}
+use Rattle.std.proofs.Common.{◌≡◌, ℕ, List, length, sym, le-ltb, lt-ltb}
 use Rattle.sheet.proofs.Chain.{pass, stop}
 use Rattle.sheet.specs.Bytes.{count_at}
 use Rattle.sheet.specs.Places.{system_start, filter_start, sheet_end}
@@ -21,7 +21,7 @@ module _ (c : After-sections_number-sections) where
       let d = rw q at c.count_at-filter.ensures in
       rw (c.count_at-cell.ensures, b, d, c.requires) at c.sections_number-sections.ensures
 
-ends : (c : After-sheet_end) → c.sheet_end.result ≡ sheet_end (ctn_of (s c.before.before)) (cln_of (s c.before.before))
+ends : (c : After-sheet_end) → c.sheet_end.result ≡ sheet_end (ctn_of c.args.s.now) (cln_of c.args.s.now)
 ends c =
     let counts = c in
     rw (counts.cln_of-cln.ensures, counts.ctn_of-ctn.ensures) at c.sheet_end.ensures.0

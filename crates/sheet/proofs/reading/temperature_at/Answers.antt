@@ -1,6 +1,5 @@
 -- The count, and as many points as the array has. Assumes nothing.
 use Rattle.sheet.specs.Read.{temperature_at}
-use Rattle.std.proofs.Common.{rules}
 use Rattle.sheet.proofs.reading.temperature_at.Goals as goal
 
 pub returns : goal.returns

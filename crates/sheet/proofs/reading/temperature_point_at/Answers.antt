@@ -1,7 +1,6 @@
 -- Each figure stands at its place. Assumes nothing.
 use Rattle.integers.proofs.Machine.{held}
 use Rattle.sheet.specs.Read.{temperature_point_at}
-use Rattle.std.proofs.Common.{rules}
 use Rattle.sheet.proofs.reading.temperature_point_at.Goals as goal
 
 pub returns : goal.returns

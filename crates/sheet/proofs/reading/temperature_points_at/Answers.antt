@@ -1,5 +1,5 @@
 -- Invariant: the points before are filled in. Assumes nothing.
-use Rattle.std.proofs.Common.{◌≡◌, ◌-◌, ◌≤◌, sym, refl, ap, ◌∙◌, arith}
+use Rattle.std.proofs.Common.{◌≡◌, sym, refl, ap, ◌∙◌, arith}
 use Rattle.figures.specs.Unused.{no_temperature}
 use Rattle.sheet.proofs.Chain.{points-at-next}
 use Rattle.sheet.specs.Read.{points_at, temperature_point_at}

@@ -1,7 +1,6 @@
 -- Invariant: the points before are filled in. Assumes nothing.
-use Rattle.std.proofs.Common.{◌≡◌, ◌-◌, ◌≤◌, sym, refl, ap, ◌∙◌, arith}
+use Rattle.std.proofs.Common.{◌≡◌, ◌-◌, ◌≤◌}
 use Rattle.figures.specs.Unused.{no_temperature}
-use Rattle.sheet.proofs.Chain.{points-at-next}
 use Rattle.sheet.specs.Read.{points_at, temperature_point_at}
 use Rattle.sheet.proofs.reading.temperature_points_at.Given as goal
 

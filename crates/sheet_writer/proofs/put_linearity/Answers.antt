@@ -1,0 +1,12 @@
+-- One piece behind the other. Assumes nothing.
+use Rattle.integers.proofs.Puts.{◌then◌}
+use Rattle.sheet_writer.proofs.Pieces.{store}
+use Rattle.sheet.specs.Write.{linearity_bytes}
+use native.Mathlib.Omega.{arith}
+use Rattle.sheet_writer.proofs.put_linearity.Goals as goal
+
+pub returns : goal.returns
+unfolding linearity_bytes
+returns c =
+    let s = c in
+    store s.args.out.now s.args.at s.args.linearity.cln (omega arith) then c.put_linearity_points.ensures
