@@ -1,6 +1,7 @@
 // Steps 1 to 5 of a reading and its STAT bits (01, "The reading"), in whole numbers, on numbers and figures: a device only moves
 // their results.
 #![tactic(auto)]
+
 mod filter;
 mod stat;
 mod steps;

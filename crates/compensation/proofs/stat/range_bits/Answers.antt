@@ -1,6 +1,5 @@
 -- `range_bits` meets its contract: two tests, two weights. Assumes nothing.
 use mir.ValLaws.{to_z-of_z}
-use borrow.Author.Rules.{rules}
 use Rattle.compensation.proofs.stat.range_bits.Goals as goal
 
 pub returns : goal.returns

@@ -7,7 +7,6 @@ use Rattle.integers.proofs.Machine.{plain, fits, i64s}
 use Rattle.arithmetic.specs.Table.{interpolated}
 use Rattle.arithmetic.proofs.Table.{interpolated-within}
 use Rattle.figures.specs.Rows.{linearities}
-use borrow.Author.Rules.{rules}
 use Rattle.compensation.proofs.steps.corrected.Goals.{After-correction}
 use Rattle.compensation.proofs.steps.corrected.Goals as goal
 

@@ -18,7 +18,7 @@ module _ (s : Start) where
   product = s.args.x *ℤ s.args.gain
 
   product-fits : SFits w64 product
-  product-fits = fits (known s.pre) tt
+  product-fits = fits (known s.requires) tt
 
   sign-in : (shr_z product (2 ^ 63)) within 1
   sign-in = sign-within product product-fits
@@ -27,19 +27,23 @@ module _ (s : Start) where
   sign_fits = fits (known sign-in) tt
 
   raised-fits : SFits w64 (product +ℤ pos (2 ^ 27))
-  raised-fits = fits (sum (known s.pre) (literal (2 ^ 27))) tt
+  raised-fits = fits (sum (known s.requires) (literal (2 ^ 27))) tt
 
   sum_fits : SFits w64 (product +ℤ pos (2 ^ 27) +ℤ shr_z product (2 ^ 63))
-  sum_fits = fits (sum (sum (known s.pre) (literal (2 ^ 27))) (known sign-in)) tt
+  sum_fits = fits (sum (sum (known s.requires) (literal (2 ^ 27))) (known sign-in)) tt
+
+pub overflow_mul-product : goal.overflow_mul-product
+overflow_mul-product c = let s = (goal.at.overflow_mul-product c).Start in simp (to_z-of_z, s.ranges.x, s.ranges.gain) (product-fits s)
 
 pub overflow_add-result : goal.overflow_add-result
-overflow_add-result c = simp (to_z-of_z, c.ranges.x, c.ranges.gain, product-fits c) (raised-fits c)
+overflow_add-result c = let s = (goal.at.overflow_add-result c).Start in simp (to_z-of_z, s.ranges.x, s.ranges.gain, product-fits s) (raised-fits s)
 
 pub overflow_add-result-2 : goal.overflow_add-result-2
-overflow_add-result-2 c = simp (to_z-of_z, c.ranges.x, c.ranges.gain, product-fits c, raised-fits c, sign_fits c) (sum_fits c)
+overflow_add-result-2 c = let s = (goal.at.overflow_add-result-2 c).Start in simp (to_z-of_z, s.ranges.x, s.ranges.gain, product-fits s, raised-fits s, sign_fits s) (sum_fits s)
 
 pub returns : goal.returns
 unfolding scaled
 returns c =
-    simp (to_z-of_z, c.ranges.x, c.ranges.gain, product-fits c, raised-fits c, sign_fits c, sum_fits c)
-    (rw (round-shift (product c) (2 ^ 27) (omega arith) (product-fits c)) (to_z-of_z w64 _ (round-fits (product c) one (lt_z_yes tt) (product-fits c))))
+    let s = (goal.at.returns c).Start in
+    simp (to_z-of_z, s.ranges.x, s.ranges.gain, product-fits s, raised-fits s, sign_fits s, sum_fits s)
+    (rw (round-shift (product s) (2 ^ 27) (omega arith) (product-fits s)) (to_z-of_z w64 _ (round-fits (product s) one (lt_z_yes tt) (product-fits s))))

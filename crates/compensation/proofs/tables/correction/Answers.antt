@@ -4,8 +4,12 @@ use mir.Syntax.{w64}
 use mir.ValLaws.{to_z-of_z}
 use Rattle.figures.specs.Rows.{linearities}
 use Rattle.compensation.proofs.Computable.{clk-computable}
-use borrow.Author.Rules.{rules}
 use Rattle.compensation.proofs.tables.correction.Goals as goal
+
+pub interpolate_one-requires : goal.interpolate_one-requires
+unfolding linearities
+interpolate_one-requires c =
+    record { le_count = c.requires.least; computable = rw c.linearity_rows.ensures (clk-computable c.args.table c.requires) }
 
 pub returns : goal.returns
 unfolding linearities
