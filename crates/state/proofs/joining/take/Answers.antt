@@ -8,19 +8,15 @@ use Rattle.compensation.specs.declared.steps.Values.{Values}
 use Rattle.state.specs.declared.Readings.{Readings}
 use Rattle.state.specs.declared.State.{State}
 use Rattle.state.specs.Reading.{readings_after, state_after_values}
-use Rattle.state.proofs.joining.take.Statement.{statement}
-use Rattle.state.proofs.joining.take.Tie as tie
+use Rattle.state.proofs.joining.take.Goals as goal
 
 built : (s : State) (elec temp : ℤ) (v : Values) {r : Readings} → r ≡ readings_after s.readings (record { input = s.readings.input; held = elec }) temp v → record { readings = r; flag = bit_or s.flag v.stat; snapshot = s.snapshot } ≡ state_after_values s (record { input = s.readings.input; held = elec }) temp v
 unfolding state_after_values
 built s elec temp v e = rw e
 
-returns : tie.Need-returns
+pub returns : goal.returns
 returns c =
-    let j = c.before.before in
-    let s = j.before in
+    let j = c in
+    let s = j in
     let a = s.args in
-    built a.state a.elec a.temp a.values (simp (to_z-of_z, s.ranges.elec, s.ranges.temp) at j.join.ensures)
-
-pub take_spec : {M : Type 1} → statement M
-take_spec = tie.close (tie.spec (λ c κs. search rules) returns)
+    built a.state a.elec a.temp a.values (simp (to_z-of_z, s.ranges.elec, s.ranges.temp) at j.join-readings.ensures)

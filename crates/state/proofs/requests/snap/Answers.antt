@@ -7,22 +7,18 @@ use borrow.Author.Rules.{sfits_of}
 use borrow.Author.Tests.{not-true, not-false}
 use Rattle.state.specs.declared.State.{State}
 use Rattle.state.specs.Request.{snapped}
-use Rattle.state.proofs.requests.snap.Statement.{statement}
-use Rattle.state.proofs.requests.snap.Tie as tie
+use Rattle.state.proofs.requests.snap.Goals as goal
 
 taken : (s : State) {z : ℤ} → s.readings.any ≡ true → z ≡ s.readings.values.sys
     → record { readings = s.readings; flag = s.flag; snapshot = record { taken = true; sysn = z } } ≡ snapped s
 unfolding snapped
 taken s e p = rw (e, p)
 
-returns : tie.Need-returns
+pub returns-then-not-readings : goal.returns-then-not-readings
 unfolding snapped
-returns c = rw (not-true c.before.before.before.args.state.readings.any c.if1.true)
+returns-then-not-readings c = rw (not-true c.args.state.readings.any c.if-not-readings.true)
 
-returns-2 : tie.Need-returns-2
-returns-2 c =
-    let e = c.before.before in
-    taken e.before.before.before.args.state (not-false _ e.if1.false) (search (to_z-of_z, sfits_of))
-
-pub snap-spec : {M : Type 1} → statement M
-snap-spec = tie.close (tie.spec returns returns-2)
+pub returns : goal.returns
+returns c =
+    let e = c in
+    taken e.args.state (not-false _ e.if-not-readings.false) (search (to_z-of_z, sfits_of))

@@ -17,8 +17,7 @@ use Rattle.register.specs.Number.{FLAG}
 use Rattle.register.specs.Register.{access_of, range_of}
 use Rattle.register.proofs.Registers.{range-computable}
 use borrow.Author.Rules.{rules}
-use Rattle.state.proofs.requests.flag_whole.Statement.{statement}
-use Rattle.state.proofs.requests.flag_whole.Tie as tie
+use Rattle.state.proofs.requests.flag_whole.Goals as goal
 
 of_range : {r : Range} → r ≡ range_of FLAG → Computable r
 of_range e = rw e (range-computable FLAG)
@@ -31,14 +30,11 @@ word {r} {z} x e h = rw (h, e) (by (counted (range_of FLAG) x) (counted-up (rang
     by (pos m) g = (tt, record { fits = omega (arith, le? (nat m) (nat 65535) g.1) })
     by (negsuc m) g = absurd g.0.le
 
-count-requires : tie.Need-count-requires
-count-requires c κs = of_range c.range-of.ensures
+pub count-requires : goal.count-requires
+count-requires c = of_range c.range_of-range.ensures
 
-cast-result : tie.Need-overflow-cast-result
-cast-result c = word _ c.before.range-of.ensures (held c.count.type-inv c.count.ensures)
+pub overflow_cast-result : goal.overflow_cast-result
+overflow_cast-result c = word _ c.range_of-range.ensures (held c.count.type_inv c.count.ensures)
 
-returns : tie.Need-returns
-returns c = rw (held c.count.type-inv c.count.ensures, c.before.range-of.ensures)
-
-pub flag-whole-spec : {M : Type 1} → statement M
-flag-whole-spec = tie.close (tie.spec (λ c κs. search rules) count-requires cast-result returns)
+pub returns : goal.returns
+returns c = rw (held c.count.type_inv c.count.ensures, c.range_of-range.ensures)

@@ -7,8 +7,7 @@ use borrow.Author.Rules.{sfits_of}
 use borrow.Author.Tests.{not-true, not-false}
 use Rattle.state.specs.declared.State.{State}
 use Rattle.state.specs.Request.{peaks_reset}
-use Rattle.state.proofs.requests.reset_peaks.Statement.{statement}
-use Rattle.state.proofs.requests.reset_peaks.Tie as tie
+use Rattle.state.proofs.requests.reset_peaks.Goals as goal
 
 reset : (s : State) {z y : ℤ} → s.readings.any ≡ true → z ≡ s.readings.values.sys → y ≡ s.readings.values.sys
     → record {
@@ -19,14 +18,11 @@ reset : (s : State) {z y : ℤ} → s.readings.any ≡ true → z ≡ s.readings
 unfolding peaks_reset
 reset s e p q = rw (e, p, q)
 
-returns : tie.Need-returns
+pub returns-then-not-readings : goal.returns-then-not-readings
 unfolding peaks_reset
-returns c = rw (not-true c.before.before.before.args.state.readings.any c.if1.true)
+returns-then-not-readings c = rw (not-true c.args.state.readings.any c.if-not-readings.true)
 
-returns-2 : tie.Need-returns-2
-returns-2 c =
-    let e = c.before.before.before in
-    reset e.before.before.before.args.state (not-false _ e.if1.false) (search (to_z-of_z, sfits_of)) (search (to_z-of_z, sfits_of))
-
-pub reset-peaks-spec : {M : Type 1} → statement M
-reset-peaks-spec = tie.close (tie.spec returns returns-2)
+pub returns : goal.returns
+returns c =
+    let e = c in
+    reset e.args.state (not-false _ e.if-not-readings.false) (search (to_z-of_z, sfits_of)) (search (to_z-of_z, sfits_of))
