@@ -1,5 +1,6 @@
 // The figures in force and the waiting copy, and what a frame makes of them (01, "The bus"; Change 1).
 #![tactic(auto)]
+
 ghost use Rattle.std.specs.Prelude.{◌≡◌};
 ghost use Rattle.in_force.specs.InForce.{zero_steps, offered, accepted, copy_fits, applied, setup_written, setup_acted, setup_by};
 

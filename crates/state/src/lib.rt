@@ -1,5 +1,6 @@
 // What a device keeps of its readings, and what a reading, a report and a frame make of it (01, "The reading", "The bus").
 #![tactic(auto)]
+
 mod joining;
 mod reporting;
 mod requests;

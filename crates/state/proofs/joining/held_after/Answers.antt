@@ -1,5 +1,4 @@
 -- `state::joining::held_after` meets its contract: its callee's, at the readings. Assumes nothing.
-use borrow.Author.Rules.{rules}
 use mathlib.Core.Path.{◌∙◌}
 use mir.ValLaws.{to_z-of_z}
 use Rattle.integers.proofs.Machine.{fits, known, held}

@@ -3,7 +3,6 @@ use mathlib.Core.Path.{◌≡◌}
 use lib.Bits.{bit_or}
 use lib.IntN.{ℤ}
 use mir.ValLaws.{to_z-of_z}
-use borrow.Author.Rules.{rules}
 use Rattle.compensation.specs.declared.steps.Values.{Values}
 use Rattle.state.specs.declared.Readings.{Readings}
 use Rattle.state.specs.declared.State.{State}

@@ -1,7 +1,6 @@
 -- `state::requests::act` meets its contract, by its tests. Assumes nothing.
 use borrow.Author.Tests.{eq-eqb, ne_eqb}
 use Rattle.state.specs.Request.{acted}
-use borrow.Author.Rules.{rules}
 use Rattle.state.proofs.requests.act.Goals as goal
 
 pub returns-then-register-eq-RST : goal.returns-then-register-eq-RST

@@ -16,7 +16,6 @@ use Rattle.binary32.proofs.Counted.{counted-up}
 use Rattle.register.specs.Number.{FLAG}
 use Rattle.register.specs.Register.{access_of, range_of}
 use Rattle.register.proofs.Registers.{range-computable}
-use borrow.Author.Rules.{rules}
 use Rattle.state.proofs.requests.flag_whole.Goals as goal
 
 of_range : {r : Range} → r ≡ range_of FLAG → Computable r

@@ -6,15 +6,13 @@ use Rattle.binary32.specs.declared.received.Range.{Range}
 use Rattle.register.specs.Number.{SZ}
 use Rattle.register.specs.Register.{range_of}
 use Rattle.register.proofs.Registers.{range-computable}
-use borrow.Author.Rules.{rules}
-use Rattle.in_force.proofs.zero_steps.Statement.{statement}
-use Rattle.in_force.proofs.zero_steps.Tie as tie
+use Rattle.in_force.proofs.zero_steps.Goals as goal
 
 of_range : {r : Range} → r ≡ range_of SZ → Computable r
 of_range e = rw e (range-computable SZ)
 
-returns : tie.Need-returns
-returns c = rw c.before.range-of.ensures at (held c.count.type-inv c.count.ensures)
+pub count-requires : goal.count-requires
+count-requires c = of_range c.range_of-range.ensures
 
-pub zero-steps-spec : {M : Type 1} → statement M
-zero-steps-spec = tie.close (tie.spec (λ c κs. search rules) (λ c κs. of_range c.range-of.ensures) returns)
+pub returns : goal.returns
+returns c = rw c.range_of-range.ensures at (held c.count.type_inv c.count.ensures)
