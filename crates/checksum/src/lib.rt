@@ -1,5 +1,6 @@
 // Modbus CRC-16 (01, "The bus"; the rule is the Modbus standard's).
 #![tactic(auto)]
+
 ghost use Rattle.std.specs.Prelude.{◌≡◌, ◌+◌, ◌-◌, ◌≤◌, ◌<◌, length, take, drop};
 ghost use Rattle.checksum.specs.Checksum.{shifts, checksum_from, checksum_of};
 

@@ -2,7 +2,6 @@
 use mathlib.Core.Path.{sym, ◌∙◌, ap}
 use lib.Seq.{take_all, take-length}
 use Rattle.checksum.specs.Checksum.{checksum_of}
-use borrow.Author.Rules.{rules}
 use Rattle.checksum.proofs.checksum.Goals as goal
 
 pub returns-then-n-count : goal.returns-then-n-count

@@ -1,8 +1,7 @@
 -- `checksum_of_front` meets its contract: the sum is that of the bytes passed. Assumes nothing.
 use mathlib.Core.Path.{◌≡◌, refl, ap, ◌∙◌}
-use Prim.Native.Nat.{ℕ, ◌+◌, ◌-◌, ◌≤◌}
+use Prim.Native.Nat.{ℕ, ◌+◌, ◌-◌}
 use native.Mathlib.Omega.{arith}
-use borrow.Author.Rules.{rules}
 use lib.ListN.{take}
 use Rattle.checksum.specs.Checksum.{checksum_of}
 use Rattle.checksum.proofs.Bytes.{further}

@@ -1,11 +1,8 @@
 -- `checksum_of_front` meets its contract: the sum is that of the bytes passed. Assumes nothing.
-use mathlib.Core.Path.{◌≡◌, refl, ap, ◌∙◌}
-use Prim.Native.Nat.{ℕ, ◌+◌, ◌-◌, ◌≤◌}
-use native.Mathlib.Omega.{arith}
-use borrow.Author.Rules.{rules}
+use mathlib.Core.Path.{◌≡◌}
+use Prim.Native.Nat.{◌-◌, ◌≤◌}
 use lib.ListN.{take}
 use Rattle.checksum.specs.Checksum.{checksum_of}
-use Rattle.checksum.proofs.Bytes.{further}
 use Rattle.checksum.proofs.checksum_of_front.Given as goal
 
 abbrev pub invariant-loop-i : goal.invariant-loop-i

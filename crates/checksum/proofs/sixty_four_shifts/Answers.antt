@@ -5,7 +5,6 @@ use native.Mathlib.Omega.{arith}
 use lib.Bits.{bit_xor, xor_lt}
 use Rattle.checksum.proofs.Linear.{ones-within}
 use Rattle.checksum.proofs.AtOnce.{remainder_of, sixty_four, upper_fits, remainder-fits, sixty-four-is}
-use borrow.Author.Rules.{rules}
 use Rattle.checksum.proofs.sixty_four_shifts.Goals as goal
 
 pub overflow_mul-multiple : goal.overflow_mul-multiple

@@ -1,27 +1,23 @@
 -- `take_few` meets its contract: the bytes passed are at the top of the word. Assumes nothing.
+use mathlib.Core.List.{List}
 use mathlib.Core.Path.{◌≡◌, refl, ap, ap₂, ◌∙◌}
-use Prim.Native.Nat.{ℕ, ◌+◌, ◌-◌, ◌*◌, ◌/◌, ◌%◌, ◌^◌, ◌≤◌}
+use Prim.Native.Nat.{ℕ, ◌+◌, ◌-◌, ◌*◌, ◌/◌, ◌%◌, ◌^◌, ◌<◌, ◌≤◌}
 use native.Mathlib.Omega.{arith}
-use borrow.Author.Rules.{rules}
 use lib.Bits.{bit_xor}
-use lib.ListN.{take, drop}
+use lib.ListN.{length, take, drop}
 use lib.Pow.{shl_exact, shr_le}
 use Rattle.integers.specs.Bytes.{byte_at, word_of}
 use Rattle.checksum.specs.Checksum.{shifts}
 use Rattle.checksum.proofs.Few.{topped, topped-lt, one_more, few-at-once}
-use Rattle.checksum.proofs.take_few.Goals.{After-shared_slice_known-in-loop-i-1}
 use Rattle.checksum.proofs.take_few.Goals as goal
 
 -- a byte is not cut by its shift, and with it one byte more is at the top
-added : (c : After-shared_slice_known-in-loop-i-1) → let a = c.args in let l = c.loop-i in
-    l.word + byte_at a.bytes.now (a.count - 1 - l.i) * 2 ^ (56 - 8 * l.i) % 2 ^ 64 ≡ topped a.bytes.now a.count (l.i + 1)
-added c =
-    let a = c.args in
-    let l = c.loop-i in
-    let s = a.bytes.now in
-    let p = a.count - 1 - l.i in
-    let whole : byte_at s p * 2 ^ (56 - 8 * l.i) % 2 ^ 64 ≡ byte_at s p * 2 ^ (56 - 8 * l.i) = shl_exact {a = byte_at s p} 8 (56 - 8 * l.i) 64 (omega (arith, c.type_inv.bytes p)) (omega arith) in
-    ap₂ (λ (x y : ℕ). x + y) l.invariant.1 whole ∙ one_more s a.count l.i (omega arith) (omega arith) (omega arith)
+added : (s : List ℕ) (count i : ℕ) {word : ℕ} → ((j : ℕ) → byte_at s j < 256) → i < count → i < 7 → count ≤ length s → word ≡ topped s count i
+    → word + byte_at s (count - 1 - i) * 2 ^ (56 - 8 * i) % 2 ^ 64 ≡ topped s count (i + 1)
+added s count i bytes below few inside top =
+    let p = count - 1 - i in
+    let whole : byte_at s p * 2 ^ (56 - 8 * i) % 2 ^ 64 ≡ byte_at s p * 2 ^ (56 - 8 * i) = shl_exact {a = byte_at s p} 8 (56 - 8 * i) 64 (bytes p) (omega arith) in
+    ap₂ (λ (x y : ℕ). x + y) top whole ∙ one_more s count i (omega arith) (omega arith) (omega arith)
 
 pub loop-i-init : goal.loop-i-init
 loop-i-init c = (omega arith, refl)
@@ -33,10 +29,13 @@ pub overflow_add-word : goal.overflow_add-word
 overflow_add-word c =
     let a = c.args in
     let l = c.loop-i in
-    omega (arith, added c, topped-lt a.bytes.now a.count (l.i + 1) (λ j. omega (arith, c.type_inv.bytes j)) (omega arith) (omega arith) (omega arith))
+    omega (arith, added a.bytes.now a.count l.i (λ j. omega (arith, c.type_inv.bytes j)) (omega arith) (omega arith) (omega arith) l.invariant.1, topped-lt a.bytes.now a.count (l.i + 1) (λ j. omega (arith, c.type_inv.bytes j)) (omega arith) (omega arith) (omega arith))
 
 pub loop-i-preserved : goal.loop-i-preserved
-loop-i-preserved c = (omega arith, added c)
+loop-i-preserved c =
+    let a = c.args in
+    let l = c.loop-i in
+    (omega arith, added a.bytes.now a.count l.i (λ j. omega (arith, c.type_inv.bytes j)) (omega arith) (omega arith) (omega arith) l.invariant.1)
 
 pub overflow_cast-above-2 : goal.overflow_cast-above-2
 overflow_cast-above-2 c = let a = c.args in omega (arith, shr_le a.sum (8 * (a.count - a.from)))
