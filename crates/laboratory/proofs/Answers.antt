@@ -1,19 +1,15 @@
 -- A move refused, and a move done, as specs/Moves.antt says. Assumes nothing.
 use mathlib.Core.Path.{◌≡◌, ◌∙◌, ap}
-use mathlib.Core.List.{List, ◌++◌}
+use mathlib.Core.List.{List}
 use Prim.Native.Nat.{ℕ, ◌+◌, ◌-◌}
 use lib.ListN.{length, take, drop, length-drop}
-use lib.Seq.{take_at, take-length}
+use lib.Seq.{take_at}
 use borrow.Author.Tests.{ne_eqb}
 use Rattle.sheet.specs.Places.{identity_size}
 use Rattle.sheet.specs.Forms.{identity_at, no_identity}
 use Rattle.sheet.specs.declared.Identity.{Identity}
 use Rattle.laboratory.specs.Moves.{to_new, to_old, put_at_front, copy_of, after, to_new_number, to_old_number, moved_of, moved_back_of, Buffers, MovedToNew, MovedToOld}
 use Rattle.laboratory.proofs.Fits.{new-length}
-
--- a text copied to the front of a buffer
-pub copied-front : (part text to : List ℕ) → part ≡ text → take (length part) part ++ drop (length part) to ≡ put_at_front text to
-copied-front part text to e = rw (e, take-length)
 
 -- what was put at the front is there
 put-there : (text before : List ℕ) {after : List ℕ} {n : ℕ} → after ≡ put_at_front text before → length text ≡ n → take n after ≡ text

@@ -1,6 +1,7 @@
 // What a laboratory does with calibration sheets, of both forms (02, Change 6), as entries that C links: firmware has no need of them,
 // so they are an archive of their own. Each takes any bytes and numbers; what does not fit is refused with a number of 01's table, or 19.
 #![tactic(auto)]
+
 ghost use Rattle.std.specs.Prelude.{◌≡◌};
 ghost use Rattle.sheet.specs.Forms.{sheet_number, contents_of};
 ghost use Rattle.sheet_writer.specs.Write.{written_of, out_after};

@@ -74,7 +74,7 @@ fn put_new(to: &mut [u8], identity: Identity, sheet: &[u8])
 {
     put_identity(to, identity);
     let at = places::IDENTITY_SIZE;
-    bytes::copy(sheet, &mut to[at..]);
+    to[at..at + sheet.len()].copy_from_slice(sheet);
 }
 
 // The old sheet in a new one, at the front of a buffer.
@@ -83,7 +83,7 @@ fn put_old(to: &mut [u8], sheet: &[u8])
     ensures { to.new ≡ put_at_front (to_old sheet.now) to.old }
 {
     let at = places::IDENTITY_SIZE;
-    bytes::copy(&sheet[at..], to);
+    to[..sheet.len() - at].copy_from_slice(&sheet[at..]);
 }
 
 // A copy of the bytes written, at the front of the scratch.
@@ -91,7 +91,7 @@ fn keep_copy(out: &[u8], written: usize, scratch: &mut [u8])
     requires { (written ≤ length out.now) × (written ≤ length scratch.old) }
     ensures { scratch.new ≡ put_at_front (copy_of (take written out.now)) scratch.old }
 {
-    bytes::copy(&out[..written], scratch);
+    scratch[..written].copy_from_slice(&out[..written]);
 }
 
 // An old sheet to the new form, with a given identity.
