@@ -1,5 +1,6 @@
 // What a frame is answered with, and the registers as they read (01, "The bus"; Change 1).
 #![tactic(auto)]
+
 ghost use Rattle.std.specs.Prelude.{◌≡◌, true};
 ghost use Rattle.panel.specs.ForCode.{InRange};
 ghost use Rattle.answers.specs.Parts.{is_read};

@@ -2,7 +2,6 @@
 use mathlib.Core.Path.{sym, ap, ◌∙◌}
 use Rattle.answers.specs.declared.Answer.TheVariants.{Value}
 use Rattle.answers.specs.Register.{panel_at}
-use borrow.Author.Rules.{rules}
 use Rattle.answers.proofs.panel_at.Goals as goal
 
 pub figure_float-requires : goal.figure_float-requires

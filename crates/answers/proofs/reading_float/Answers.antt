@@ -15,3 +15,9 @@ pub float_of_steps-requires : goal.float_of_steps-requires
 float_of_steps-requires c =
     let s = c in
     rw (held c.steps_at.type_inv c.steps_at.ensures) (steps-within s.args.r s.args.register s.requires)
+
+pub returns : goal.returns
+unfolding reading_float
+returns c =
+    let s = c.steps_at in
+    simp (ne_eqb _ _ c.if-register-eq-STAT.false) (c.float_of_steps.ensures ∙ ap step_float (held s.type_inv s.ensures))

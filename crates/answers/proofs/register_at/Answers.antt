@@ -7,7 +7,6 @@ use Rattle.binary32.specs.Sent.{step_float}
 use Rattle.answers.specs.declared.Answer.TheVariants.{Value}
 use Rattle.answers.specs.Register.{register_at}
 use Rattle.state.proofs.Within.{kept, kept-within}
-use borrow.Author.Rules.{rules}
 use Rattle.answers.proofs.register_at.Goals as goal
 
 pub panel_at-requires : goal.panel_at-requires

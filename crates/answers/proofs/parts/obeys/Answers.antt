@@ -1,6 +1,5 @@
 -- `answers::parts::obeys` meets its contract: 99 by the copy, any other by the readings. Assumes nothing.
 use mathlib.Core.Path.{sym, ◌∙◌}
-use borrow.Author.Rules.{rules}
 use Rattle.answers.proofs.parts.obeys.Goals as goal
 
 pub returns-then-applies : goal.returns-then-applies
