@@ -39,7 +39,7 @@ use Rattle.state.specs.Reading.{bad_reading, outside, beyond, larger, smaller, p
 use Rattle.state.specs.Request.{fresh}
 use Rattle.state.specs.declared.State.{State}
 use Rattle.converter.specs.Making.{station_fits, setup_of, started, made}
-use Rattle.converter.specs.Call.{reading, number, run, after_call, after_reading}
+use Rattle.converter.specs.Call.{reading, run, after_call, after_reading}
 use Rattle.converter.specs.declared.Device.{Device}
 use Rattle.converter.specs.declared.corner.Sample.{Sample}
 use Rattle.converter.specs.Pulling.{push, pull, Opposite, Pair, MirroredSheet, table_of, state_of, BothWays}

@@ -29,7 +29,7 @@ reached-step r c = record {
 
 pub reached-run : {d : Device} → Reached d → (calls : List Call) → Reached (run d calls)
 reached-run h [] = h
-reached-run h (c ∷ calls) = reached-run (reached-step h c) calls
+reached-run {d = d} h (c ∷ calls) = reached-run {d = after_call d c} (reached-step h c) calls
 
 abbrev pub log-of : {d : Device} → Reached d → Log
 log-of r = log_of r.sheet r.station r.calls

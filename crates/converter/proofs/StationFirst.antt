@@ -10,7 +10,7 @@ use lib.Dec.{eqb, leb}
 use Rattle.integers.proofs.Order.{pick}
 use Rattle.sheet.specs.Forms.{read_sheet, sheet_number}
 use Rattle.sheet.proofs.Range.{sheet-numbers}
-use Rattle.converter.specs.Making.{station_fits, made, refused}
+use Rattle.converter.specs.Making.{station_fits, made}
 use Rattle.converter.specs.Station.{Station, StationFirst}
 use Rattle.converter.specs.declared.Outcome.{Outcome}
 

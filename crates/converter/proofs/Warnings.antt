@@ -32,7 +32,7 @@ use Rattle.converter.specs.declared.Device.{Device}
 use Rattle.converter.specs.declared.corner.Sample.{Sample}
 use Rattle.converter.specs.Making.{made}
 use Rattle.converter.specs.Corner.{at, corner_refused}
-use Rattle.converter.specs.Call.{Call, reading, frame, report, corner, probe, after_reading, after_sample, after_call, run, sample_number, number}
+use Rattle.converter.specs.Call.{Call, reading, frame, report, corner, probe, after_reading, after_sample, after_call, run, sample_number}
 use Rattle.converter.specs.Reached.{Reached}
 use Rattle.converter.specs.Warnings.{AcceptedWrite, Raises, Lacks, Clears, BitBy, Uncleared, RaisedAmong, StillRaised, FlagRead, First, Anew, Outlives}
 use Rattle.answers.specs.Parts.{restarts}
@@ -190,6 +190,7 @@ outlives b d t [] u = t
 outlives b d t (c ∷ calls) u = outlives b (after_call d c) (stays-raised b d c u.0 t) calls u.1
 
 among : (b : ℕ) (d : Device) (calls : List Call) → RaisedAmong b d calls → Raised b (run d calls).state.flag
+among b d [] k = elim k [ ]
 among b d (c ∷ calls) (inl k) = outlives b (after_call d c) (is-raised b d c k.0) calls k.1
 among b d (c ∷ calls) (inr k) = among b (after_call d c) calls k
 

@@ -9,7 +9,7 @@ use Rattle.figures.specs.declared.Calibration.{Calibration}
 use Rattle.probe.specs.Probe.{temp_of}
 use Rattle.compensation.specs.Monotone.{NoneBelow, OneBelow, BothBelow, FollowsElec}
 use Rattle.converter.specs.Corner.{Corner, at}
-use Rattle.converter.specs.Call.{Call, reading, corner, probe, after_call, number}
+use Rattle.converter.specs.Call.{reading, corner, probe, after_call, number}
 use Rattle.converter.specs.Reached.{Reached}
 use Rattle.converter.specs.Wire.{Sends}
 use Rattle.converter.specs.Log.{Kept, latest, log_of}

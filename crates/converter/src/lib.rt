@@ -1,6 +1,7 @@
 // The converter (01): a device and its entries, making, reading, report and bus frame. Each takes any bytes and numbers, and any
 // device that a making and these calls gave; it answers 0, or the number of 01's table of turned-down calls.
 #![tactic(auto)]
+
 ghost use Rattle.std.specs.Prelude.{◌≡◌};
 ghost use Rattle.state.specs.Report.{report_of};
 ghost use Rattle.converter.specs.Call.{obeyed};

@@ -4,8 +4,7 @@ use mathlib.Core.Bool.{true, false}
 use mathlib.Core.List.{List}
 use Prim.Native.Nat.{ℕ}
 use lib.Dec.{eqb}
-use borrow.Author.Rules.{rules}
-use borrow.Author.Tests.{eq-eqb, eqb-true, ne_eqb, not-true, not-false}
+use borrow.Author.Tests.{eq-eqb, eqb-true, ne_eqb}
 use Rattle.sheet.specs.Forms.{read_sheet}
 use Rattle.sheet.proofs.Theorems.{read-accepted}
 use Rattle.sheet.specs.declared.Sheet.{Sheet}
@@ -15,8 +14,7 @@ use Rattle.converter.specs.Making.{station_fits, refused, made}
 use Rattle.converter.specs.Reached.{Reached, Making}
 use Rattle.converter.specs.declared.Outcome.{Outcome}
 use Rattle.converter.proofs.Reached.{reached-made}
-use Rattle.converter.proofs.Device.make.Statement.{statement}
-use Rattle.converter.proofs.Device.make.Tie as tie
+use Rattle.converter.proofs.Device.make.Goals as goal
 
 makes : (sheet : List ℕ) (station : ℕ) {r : Outcome} → r ≡ made sheet station → Making sheet station r
 makes sheet station e = record { is = e; reached = λ h. subst (λ (o : Outcome). Reached o.device) (sym e) (reached-made sheet station (sym (ap (λ (o : Outcome). o.number) e) ∙ h)) }
@@ -34,25 +32,16 @@ starts : (sheet : List ℕ) (station : ℕ) {s : Sheet} {t : State} → station_
 unfolding made
 starts sheet station {s} f e n t = rw (f, rw e at n, e, t, (read-accepted sheet (eqb-true _ 0 (rw e at n))).unused)
 
-returns : tie.Need-returns
+pub returns-then-not-station_fits : goal.returns-then-not-station_fits
+returns-then-not-station_fits c =
+    makes _ _ (wrong-station c.args.sheet.now c.args.station (sym c.station_fits.ensures ∙ c.if-not-station_fits.true) c.refused.ensures)
+
+pub returns-then-read-ne0 : goal.returns-then-read-ne0
+returns-then-read-ne0 c =
+    let fits = sym c.station_fits.ensures ∙ c.if-not-station_fits.false in
+    makes _ _ (wrong-sheet c.args.sheet.now c.args.station fits c.read-read.ensures (ne_eqb _ 0 c.if-read-ne0.true) c.refused-then-read-ne0.ensures)
+
+pub returns : goal.returns
 returns c =
-    let f = c.before.before in
-    makes _ _ (wrong-station f.before.before.args.sheet.now f.before.before.args.station (sym f.station-fits.ensures ∙ not-true f.station-fits.result c.before.if1.true) c.refused.ensures)
-
-returns-2 : tie.Need-returns-2
-returns-2 c =
-    let r = c.before.before.before in
-    let f = r.before.before in
-    makes _ _ (wrong-sheet f.before.before.args.sheet.now f.before.before.args.station (sym f.station-fits.ensures ∙ not-false f.station-fits.result r.before.if1.false) r.read.ensures (ne_eqb _ 0 c.before.if2.true) c.refused2.ensures)
-
-returns-3 : tie.Need-returns-3
-returns-3 c =
-    let r = c.before.before.before.before in
-    let f = r.before.before in
-    makes _ _ (starts f.before.before.args.sheet.now f.before.before.args.station (sym f.station-fits.ensures ∙ not-false f.station-fits.result r.before.if1.false) r.read.ensures (eq-eqb _ 0 c.before.before.if2.false) c.fresh.ensures)
-
-pub make_spec : {M : Type 1} → statement M
-make_spec =
-    tie.close
-    (tie.spec (λ c κs. search rules) (λ c κs. search rules) returns (λ c κs. search rules) (λ c κs. search rules) returns-2
-    (λ c κs. search rules) returns-3)
+    let fits = sym c.station_fits.ensures ∙ c.if-not-station_fits.false in
+    makes _ _ (starts c.args.sheet.now c.args.station fits c.read-read.ensures (eq-eqb _ 0 c.if-read-ne0.false) c.fresh-state.ensures)
