@@ -67,8 +67,8 @@ pub extern "C" fn converter_weigh(
     four: &mut Device,
     samples: &Samples,
 ) -> Weighed
-    requires { AllReached (record { one = one.now; two = two.old; three = three.old; four = four.old }) }
-    ensures { Weighing (record { one = one.entry.now; two = two.old; three = three.old; four = four.old }) samples.now (record { weighed = result; platform = record { one = one.exit.now; two = two.new; three = three.new; four = four.new } }) }
+    requires { AllReached (record { one = one.old; two = two.old; three = three.old; four = four.old }) }
+    ensures { Weighing (record { one = one.old; two = two.old; three = three.old; four = four.old }) samples.now (record { weighed = result; platform = record { one = one.new; two = two.new; three = three.new; four = four.new } }) }
 {
     if platform::is_refused(*samples) {
         return platform::refused();

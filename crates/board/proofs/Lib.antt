@@ -1,6 +1,0 @@
-mod Kept
-mod Record
-mod Callees
-mod Handed
-mod Samples
-mod Lent
