@@ -1,5 +1,6 @@
 // Rounding and interpolation (01, "Steps and rounding" and step 2 of "The reading"), and the magnitude of a number.
 #![tactic(auto)]
+
 mod interpolation;
 mod rounding;
 mod sign;

@@ -2,6 +2,7 @@
 // the lent record apart, calls functions over its parts, by value, and stores only what the call can change. Contracts are those of
 // `converter`'s entries, read at entry and exit.
 #![tactic(auto)]
+
 ghost use Rattle.std.specs.Prelude.{◌≡◌, false};
 ghost use Rattle.state.specs.Report.{report_of};
 ghost use Rattle.in_force.specs.InForce.{copy_fits, applied};

@@ -1,5 +1,6 @@
 // The calibration figures (01, "The calibration sheet"), by the manuals' names.
 #![tactic(auto)]
+
 ghost use Rattle.std.specs.Prelude.{◌≡◌};
 ghost use Rattle.figures.specs.Default.{default_sheet};
 

@@ -2,6 +2,7 @@
 // gives reports, is calibrated from the panel, and reads a hot hopper by its probe; four weigh a lorry. Each call prints a line: what was
 // called, its number, and what it gave. The device that a call gives back is handed to the next.
 #![tactic(auto)]
+
 ghost use Rattle.figures.specs.Default.{default_sheet};
 ghost use Rattle.sheet.specs.Write.{sheet_bytes};
 ghost use Rattle.converter.specs.Call.{reading, frame, probe};

@@ -2,6 +2,7 @@
 // (01, "Conditions of acceptance"). Each is a proof obligation, that the definitions give the expected value, and is run as well:
 // a case that comes out otherwise ends the run before its kind is named.
 #![tactic(auto)]
+
 mod checksums;
 mod floats;
 mod frames;

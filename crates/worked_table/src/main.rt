@@ -1,6 +1,7 @@
 // Prints 001's worked temperature table (its chapter 6), interpolated: for some temperatures in °C the offset o, in steps, and
 // the gain adjustment g, in 1/2^28.
 #![tactic(auto)]
+
 ghost use Rattle.integers.specs.Within.{_within_};
 
 use libc::STDOUT_FILENO;
