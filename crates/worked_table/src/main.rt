@@ -2,9 +2,9 @@
 // the gain adjustment g, in 1/2^28.
 #![tactic(auto)]
 
-ghost use Rattle.integers.specs.Within.{_within_};
+ghost use Rattle.integers.specs.Within.{◌within◌};
 
-use libc::STDOUT_FILENO;
+use std::io;
 
 // CT, CTO, CTG of the four points measured there, in steps and in 1/2^28; the fifth is not used.
 const POINTS: [[i64; 3]; 5] = [
@@ -15,32 +15,29 @@ const POINTS: [[i64; 3]; 5] = [
     [0, 0, 0],
 ];
 
-fn main() {
-    io::write_all(STDOUT_FILENO, b"TEMP o g\n");
-    print_row(-25);
-    print_row(-15);
-    print_row(0);
-    print_row(20);
-    print_row(25);
-    print_row(40);
-    print_row(60);
+fn main(rt: HostRuntime) -> io::Result<()> {
+    println!(rt; "TEMP o g")?;
+    print_row(&rt, -25)?;
+    print_row(&rt, -15)?;
+    print_row(&rt, 0)?;
+    print_row(&rt, 20)?;
+    print_row(&rt, 25)?;
+    print_row(&rt, 40)?;
+    print_row(&rt, 60)
 }
 
-fn print_row(degrees: i64)
+fn print_row(rt: &impl Print, degrees: i64) -> io::Result<()>
     requires { degrees within 1000 }
 {
     let adjustment = arithmetic::interpolate_two(POINTS, 4, degrees * 65_536);
-    print_signed(degrees);
-    io::write_all(STDOUT_FILENO, b" ");
-    print_signed(adjustment.first);
-    io::write_all(STDOUT_FILENO, b" ");
-    print_signed(adjustment.second);
-    io::write_all(STDOUT_FILENO, b"\n");
+    print_signed(rt, degrees)?;
+    print!(rt; " ")?;
+    print_signed(rt, adjustment.first)?;
+    print!(rt; " ")?;
+    print_signed(rt, adjustment.second)?;
+    println!(rt)
 }
 
-fn print_signed(n: i64) {
-    if n < 0 {
-        io::write_all(STDOUT_FILENO, b"-");
-    }
-    io::print_decimal(STDOUT_FILENO, arithmetic::magnitude(n));
+fn print_signed(rt: &impl Print, n: i64) -> io::Result<()> {
+    print!(rt; "{n}")
 }
