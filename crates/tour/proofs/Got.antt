@@ -16,6 +16,7 @@ use Rattle.sheet.specs.Step.{count_found, figure_found, started, count_step, fig
 use Rattle.sheet.specs.declared.CountFound.{CountFound}
 use Rattle.sheet.specs.declared.FigureFound.{FigureFound}
 use Rattle.sheet.specs.declared.CountStep.{CountStep}
+use Rattle.sheet.specs.declared.Cursor.{Cursor}
 use Rattle.sheet.specs.declared.FigureStep.{FigureStep}
 use Rattle.tour.specs.Contents.{cell_section}
 use Rattle.tour.specs.declared.contents.CellSection.{CellSection}
@@ -120,3 +121,9 @@ module _ (s : Bor (List ℕ)) where
           cmax = figure-value c 25 _ g25 i;
         };
       }
+
+-- what five steps gave, each from the cursor that the one before left
+pub cell-read : (s : Bor (List ℕ)) {r0 : Cursor} {r1 : CountStep} {r2 r3 r4 r5 : FigureStep} → r0 ≡ started s → r1 ≡ count_step r0
+    → r2 ≡ figure_step r1.next → r3 ≡ figure_step r2.next → r4 ≡ figure_step r3.next → r5 ≡ figure_step r4.next
+    → record { number = r5.number; count = r1.value; cell = record { cofs = r2.value; cgai = r3.value; cmin = r4.value; cmax = r5.value } } ≡ cell_section s.now
+cell-read s e0 e1 e2 e3 e4 e5 = rw (e5, e4, e3, e2, e1, e0) (cell-found s)

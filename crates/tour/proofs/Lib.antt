@@ -1,2 +1,1 @@
-mod Lent
 mod Got

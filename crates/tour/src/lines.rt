@@ -1,70 +1,75 @@
-// The parts of a printed line.
-use libc::STDOUT_FILENO;
+// The parts of a printed line. What standard output does not take is left out, and the calls go on.
 
 // The entry that was called, with what, and its number.
-pub(crate) fn print_call(entry: &[u8], what: &[u8], number: u8) {
-    io::write_all(STDOUT_FILENO, entry);
-    io::write_all(STDOUT_FILENO, b" ");
-    io::write_all(STDOUT_FILENO, what);
-    io::write_all(STDOUT_FILENO, b": ");
-    io::print_decimal(STDOUT_FILENO, wide(number));
+pub(crate) fn print_call(rt: &impl Print, entry: &[u8], what: &[u8], number: u8) {
+    print_text(rt, entry);
+    print_text(rt, b" ");
+    print_text(rt, what);
+    print_text(rt, b": ");
+    print_decimal(rt, wide(number));
 }
 
-pub(crate) fn print_length(length: usize) {
-    io::write_all(STDOUT_FILENO, b", ");
-    io::print_decimal(STDOUT_FILENO, length as u64);
-    io::write_all(STDOUT_FILENO, b" bytes");
+pub(crate) fn print_length(rt: &impl Print, length: usize) {
+    print_text(rt, b", ");
+    print_decimal(rt, length as u64);
+    print_text(rt, b" bytes");
 }
 
 // Two digits each.
-pub(crate) fn print_bytes(bytes: &[u8]) {
-    io::write_all(STDOUT_FILENO, b",");
+pub(crate) fn print_bytes(rt: &impl Print, bytes: &[u8]) {
+    print_text(rt, b",");
     let mut i: usize = 0;
     while i < bytes.len() {
-        io::write_all(STDOUT_FILENO, b" ");
-        io::print_hex(STDOUT_FILENO, wide(bytes[i]), 2);
+        let _ = print!(rt; " {:02x}", bytes[i]);
         i += 1;
     }
 }
 
 // The bit pattern of a float; nothing of a NaN, which no device gives.
-pub(crate) fn print_float(x: f32) {
+pub(crate) fn print_float(rt: &impl Print, x: f32) {
     if x != x {
         return;
     }
-    io::write_all(STDOUT_FILENO, b", ");
-    io::print_hex(STDOUT_FILENO, f32::to_bits(x) as u64, 8);
+    let _ = print!(rt; ", {:08x}", f32::to_bits(x));
 }
 
 // A section's count; its figures follow.
-pub(crate) fn print_count(count: u8) {
-    io::write_all(STDOUT_FILENO, b", ");
-    io::print_decimal(STDOUT_FILENO, wide(count));
-    io::write_all(STDOUT_FILENO, b":");
+pub(crate) fn print_count(rt: &impl Print, count: u8) {
+    print_text(rt, b", ");
+    print_decimal(rt, wide(count));
+    print_text(rt, b":");
 }
 
 // A figure or a weight, in decimal.
-pub(crate) fn print_signed(n: i64) {
-    io::write_all(STDOUT_FILENO, b" ");
+pub(crate) fn print_signed(rt: &impl Print, n: i64) {
+    print_text(rt, b" ");
     if n < 0 {
-        io::write_all(STDOUT_FILENO, b"-");
+        print_text(rt, b"-");
     }
-    io::print_decimal(STDOUT_FILENO, arithmetic::magnitude(n));
+    print_decimal(rt, arithmetic::magnitude(n));
 }
 
 // Between groups of numbers.
-pub(crate) fn print_comma() {
-    io::write_all(STDOUT_FILENO, b",");
+pub(crate) fn print_comma(rt: &impl Print) {
+    print_text(rt, b",");
 }
 
 // The number of a refusal, in the place of a figure.
-pub(crate) fn print_refused(number: u8) {
-    io::write_all(STDOUT_FILENO, b" refused ");
-    io::print_decimal(STDOUT_FILENO, wide(number));
+pub(crate) fn print_refused(rt: &impl Print, number: u8) {
+    print_text(rt, b" refused ");
+    print_decimal(rt, wide(number));
 }
 
-pub(crate) fn end_line() {
-    io::write_all(STDOUT_FILENO, b"\n");
+pub(crate) fn end_line(rt: &impl Print) {
+    print_text(rt, b"\n");
+}
+
+fn print_text(rt: &impl Print, text: &[u8]) {
+    let _ = rt.write_all(text);
+}
+
+fn print_decimal(rt: &impl Print, n: u64) {
+    let _ = print!(rt; "{n}");
 }
 
 fn wide(x: u8) -> u64 {

@@ -9,7 +9,7 @@ use platform::{Platform, Weights};
 
 // Each corner starts as the device that is handed in, so all four have its station. The lorry puts 30, 25.5, 61.5 and 58 % on them; then
 // it has gone, and corner 3 gives a reading that is one step beyond its range.
-pub(crate) fn weigh_lorry(device: Device)
+pub(crate) fn weigh_lorry(rt: &impl Print, device: Device)
     requires { Reached device }
 {
     let empty = Platform {
@@ -19,12 +19,13 @@ pub(crate) fn weigh_lorry(device: Device)
         four: device,
     };
     let loaded = weigh(
+        rt,
         empty,
         b"lorry",
         samples_of(1_966_080, 1_671_168, 4_030_464, 3_801_088),
     );
-    let kept = weigh(loaded, b"corner 3 bad", samples_of(0, 0, 19_660_801, 0));
-    crate::print_report(b"corner 1", kept.one);
+    let kept = weigh(rt, loaded, b"corner 3 bad", samples_of(0, 0, 19_660_801, 0));
+    crate::print_report(rt, b"corner 1", kept.one);
 }
 
 // ELEC of corners 1 to 4, in steps, all at 20 °C and sound.
@@ -45,28 +46,28 @@ fn sample_of(elec: i64) -> Sample {
     }
 }
 
-fn weigh(platform: Platform, what: &[u8], samples: Samples) -> Platform
+fn weigh(rt: &impl Print, platform: Platform, what: &[u8], samples: Samples) -> Platform
     requires { AllReached platform }
     ensures { (result ≡ after platform samples) × AllReached result }
 {
     let outcome = platform.weigh(samples);
     let weighed = outcome.weighed;
-    lines::print_call(b"weigh", what, weighed.number);
-    print_weights(weighed.weights);
-    lines::end_line();
+    lines::print_call(rt, b"weigh", what, weighed.number);
+    print_weights(rt, weighed.weights);
+    lines::end_line(rt);
     outcome.platform
 }
 
 // The four SYS; total, left, right, left less right.
-fn print_weights(weights: Weights) {
-    lines::print_comma();
-    lines::print_signed(weights.one);
-    lines::print_signed(weights.two);
-    lines::print_signed(weights.three);
-    lines::print_signed(weights.four);
-    lines::print_comma();
-    lines::print_signed(weights.total);
-    lines::print_signed(weights.left);
-    lines::print_signed(weights.right);
-    lines::print_signed(weights.difference);
+fn print_weights(rt: &impl Print, weights: Weights) {
+    lines::print_comma(rt);
+    lines::print_signed(rt, weights.one);
+    lines::print_signed(rt, weights.two);
+    lines::print_signed(rt, weights.three);
+    lines::print_signed(rt, weights.four);
+    lines::print_comma(rt);
+    lines::print_signed(rt, weights.total);
+    lines::print_signed(rt, weights.left);
+    lines::print_signed(rt, weights.right);
+    lines::print_signed(rt, weights.difference);
 }

@@ -1,10 +1,6 @@
--- `tour::make_device` meets its contract: the buffer is long enough, and its front is the default sheet. Assumes nothing.
-use mathlib.Core.Path.{◌≡◌, refl, sym, ap, ◌∙◌, subst}
-use mathlib.Core.List.{List, ◌++◌}
-use Prim.Native.Nat.{ℕ, ◌≤◌}
-use native.Mathlib.Omega.{arith}
-use lib.ListN.{length, take, drop, length-append}
-use lib.Seq.{take_at, length-take-le}
+-- The buffer is long enough, and its front is the default sheet.
+use Rattle.std.proofs.Common.{◌≡◌, refl, sym, ap, ◌∙◌, subst, List, ◌++◌, ℕ, ◌≤◌, length, take, drop, length-append, arith}
+use Rattle.std.proofs.Math.Seq.{take_at, length-take-le}
 use Rattle.figures.specs.Default.{default_sheet}
 use Rattle.figures.specs.declared.Calibration.{Calibration}
 use Rattle.figures.proofs.Default.{default-representable, default-acceptable}
@@ -14,10 +10,8 @@ use Rattle.sheet.proofs.Accepted.{acceptable-figures, acceptable-fits}
 use Rattle.sheet.proofs.Theorems.{written-length}
 use Rattle.sheet_writer.specs.Write.{write_number, written_of, out_after}
 use Rattle.sheet_writer.specs.declared.Written.{Written}
-use borrow.Author.Rules.{rules}
 use Rattle.converter.specs.Reached.{Making}
-use Rattle.tour.proofs.make_device.Statement.{statement}
-use Rattle.tour.proofs.make_device.Tie as tie
+use Rattle.tour.proofs.make_device.Goals as goal
 
 length-is : sheet_length default_sheet ≡ 173
 unfolding default_sheet
@@ -42,23 +36,20 @@ front out after {w} h d e a =
     let b : after ≡ sheet_bytes default_sheet ++ drop 173 out = a ∙ simp (d, accepted out h, length-is) in
     record { fits = rw (n, b, length-append, bytes-are) (omega arith); is = rw (n, b) (take_at (sheet_bytes default_sheet) (drop 173 out) 173 bytes-are) }
 
-module _ (c : tie.After-write) where
-  fronted : Front c.write.result c.write.new.1.0
-  fronted = front _ _ refl c.before.before.new.ensures c.write.ensures.0 c.write.ensures.1
+pub slice_bounds-buffer-end : goal.slice_bounds-buffer-end
+slice_bounds-buffer-end g c =
+    let w = c.write-written in
+    let f : Front w.result w.new.out = front _ _ refl c.new.ensures w.ensures.0 w.ensures.1 in
+    f.fits
 
-array-share-prefix-buffer : tie.Need-array-share-prefix-buffer
-array-share-prefix-buffer c = (fronted c.before.before.before.before.before.before).fits
+pub slice_bounds-device_of-end : goal.slice_bounds-device_of-end
+slice_bounds-device_of-end g c =
+    let w = c.write-written in
+    let f : Front w.result w.new.out = front _ _ refl c.new.ensures w.ensures.0 w.ensures.1 in
+    sym (length-take-le _ _ f.fits)
 
-slice-aggregate-device-of : tie.Need-slice-aggregate-device-of
-slice-aggregate-device-of c = let w = c.before.before.before.before.before.before.before in sym (length-take-le _ _ (fronted w).ranges)
-
-returns : tie.Need-returns
-returns c =
-    subst (λ (s : List ℕ). Making s 52 c.device-of.result) (fronted c.before.before.before.before.before.before.before.before).is c.device-of.ensures
-
-pub make-device-spec : {M : Type 1} → statement M
-make-device-spec =
-    tie.close
-    (tie.spec (λ c κs. search rules) (λ c. search rules) (λ c κs. search rules) (λ c. search rules) (λ c. search rules)
-    (λ c κs. search rules) (λ c κs. search rules) (λ c κs. search rules) array-share-prefix-buffer slice-aggregate-device-of
-    (λ c κs. search rules) returns)
+pub returns : goal.returns
+returns g c =
+    let w = c.write-written in
+    let f : Front w.result w.new.out = front _ _ refl c.new.ensures w.ensures.0 w.ensures.1 in
+    subst (λ (s : List ℕ). Making s 52 c.device_of.result) f.is c.device_of.ensures
