@@ -9,13 +9,15 @@ mod frames;
 mod received;
 mod replies;
 
-fn main() {
+use std::io;
+
+fn main(rt: HostRuntime) -> io::Result<()> {
     checksums::cases();
-    io::write_all(1, b"checksums: as expected\n");
+    println!(rt; "checksums: as expected")?;
     floats::of_001();
     floats::steps_out();
     floats::parts_out();
-    io::write_all(1, b"floats: as expected\n");
+    println!(rt; "floats: as expected")?;
     received::zeros();
     received::flags();
     received::gains();
@@ -23,7 +25,7 @@ fn main() {
     received::offsets();
     received::filters();
     received::counts();
-    io::write_all(1, b"received: as expected\n");
+    println!(rt; "received: as expected")?;
     frames::asked();
     frames::acted();
     frames::written();
@@ -37,10 +39,10 @@ fn main() {
     frames::unfit();
     frames::unfit_figures();
     frames::long();
-    io::write_all(1, b"frames: as expected\n");
+    println!(rt; "frames: as expected")?;
     replies::replies();
     replies::exceptions();
     replies::exceptions_to_writes();
     replies::silences();
-    io::write_all(1, b"replies: as expected\n");
+    println!(rt; "replies: as expected")
 }
