@@ -3,7 +3,7 @@ use mathlib.Core.Path.{◌≡◌}
 use mathlib.Core.List.{List, ◌++◌}
 use Prim.Native.Nat.{ℕ}
 use lib.ListN.{length, drop}
-use lib.Ieee.{Float, of_bits, to_bits, div, neg, round}
+use lib.Ieee.{of_bits, to_bits, div, neg, round}
 use Rattle.arithmetic.specs.Round.{round_div, round_magnitude}
 use Rattle.binary32.specs.Received.{takes, nearest, counted}
 use Rattle.binary32.specs.ForCode.{Computable}
@@ -30,11 +30,7 @@ unfoldable pub replies : Unit {0}
 unfolding floats with_byte framed silent unless_silent write_reply exception_code exception_reply
 replies = tt
 
--- Two facts by each, and a reply by its parts, for `search`, which makes no pair and no record of so large a goal.
-
-pub both : {A B : Type 0} → A → B → A × B
-both a b = (a, b)
-
+-- A reply by its parts, for `search`, which makes no record of so large a goal.
 pub replied :
     {bytes before after : List ℕ} {n : ℕ} →
     n ≡ length bytes → after ≡ bytes ++ drop (length bytes) before → Replied bytes before after n
@@ -43,7 +39,3 @@ replied count buffer = record { count = count; buffer = buffer }
 -- A register's range can be computed with.
 pub ranged : (n : ℕ) {r : Range} → r ≡ range_of n → Computable r
 ranged n e = rw e (range-computable n)
-
--- What is found of a range and a float, of those that they equal.
-pub found : {A : Type 0} (f : Range → Float → A) {r q : Range} {x y : Float} {a b : A} → a ≡ f r x → r ≡ q → x ≡ y → f q y ≡ b → a ≡ b
-found f h e g k = rw (h, e, g) k

@@ -9,6 +9,7 @@ pub(crate) fn is(bytes: &[u8], expected: u16)
     check::expect(checksum::checksum(bytes, bytes.len()) == expected);
 }
 
+#[tactic(auto, unfolding(checksum::specs::Checksum::with_byte))]
 pub(crate) fn cases() {
     // The CRC catalogue's check value, the standard's worked example, and the start value.
     is(b"123456789", 0x4b37);

@@ -13,6 +13,7 @@ fn comes_in(a: u8, b: u8, c: u8, d: u8, expected: f32)
     check::expect(pattern == binary32::wire::bits_of_float(expected));
 }
 
+#[tactic(auto, unfolding(crate::proofs::Cases::floats))]
 pub(crate) fn of_001() {
     // The numbers printed in 001: 1.23, −12345.678 and 100.0 are the nearest floats; −55.2317 is a
     // shortened print of C25CED51, which is −14,478,673 / 262,144.
@@ -45,6 +46,7 @@ fn goes_out(z: i64, bits: u32)
     check::expect(pattern == binary32::wire::bits_of_float(float_of(bits)));
 }
 
+#[tactic(auto, unfolding(crate::proofs::Cases::floats))]
 pub(crate) fn steps_out() {
     // Step counts that are floats exactly, with the two ends of the range.
     goes_out(1, 0x37800000);
@@ -71,6 +73,7 @@ fn part_goes_out(z: i64, bits: u32)
     check::expect(pattern == binary32::wire::bits_of_float(float_of(bits)));
 }
 
+#[tactic(auto, unfolding(crate::proofs::Cases::floats))]
 pub(crate) fn parts_out() {
     // Counts that are floats exactly: 0, 1, 20.0 and the two ends, ±64.
     part_goes_out(0, 0x00000000);

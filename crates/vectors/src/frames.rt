@@ -8,6 +8,7 @@ use crate::checksums;
 use modbus::frame::Frame;
 
 // The number of a refusal; else the register, with what is done to it.
+#[tactic(auto, unfolding(crate::specs::Asked::asked_number))]
 fn asked_number(asked: Frame) -> u64
     ensures { result ≡ asked_number asked }
 {
@@ -20,6 +21,7 @@ fn asked_number(asked: Frame) -> u64
 }
 
 // The pattern of a write's float; else 0.
+#[tactic(auto, unfolding(crate::specs::Asked::float_of))]
 fn float_of(asked: Frame) -> u32
     ensures { result ≡ float_of asked }
 {
@@ -45,6 +47,7 @@ fn refused(frame: &[u8], room: usize, station: u8, number: u8)
     asks(frame, room, station, Frame::Refused(number));
 }
 
+#[tactic(auto, unfolding(crate::proofs::Cases::frames))]
 pub(crate) fn asked() {
     // Reads: SYS, 001's read of STAT, and RST.
     asks(
@@ -67,6 +70,7 @@ pub(crate) fn asked() {
     );
 }
 
+#[tactic(auto, unfolding(crate::proofs::Cases::frames))]
 pub(crate) fn acted() {
     // RST, SNAP and peak reset: the value is ignored, a NaN too.
     asks(
@@ -89,6 +93,7 @@ pub(crate) fn acted() {
     );
 }
 
+#[tactic(auto, unfolding(crate::proofs::Cases::frames))]
 pub(crate) fn written() {
     // Writes: SZ, FLAG with −0.0, and a broadcast of SZ at its end.
     asks(
@@ -111,6 +116,7 @@ pub(crate) fn written() {
     );
 }
 
+#[tactic(auto, unfolding(crate::proofs::Cases::frames))]
 pub(crate) fn panel() {
     // Change 1, reads: the first of the figures and the last, and register 99.
     asks(
@@ -146,6 +152,7 @@ pub(crate) fn panel() {
     );
 }
 
+#[tactic(auto, unfolding(crate::proofs::Cases::frames))]
 pub(crate) fn figures_written() {
     // Writes of the figures that stand alone: gains, offset, limit, filter level and steps; one to all stations.
     asks(
@@ -186,6 +193,7 @@ pub(crate) fn figures_written() {
     );
 }
 
+#[tactic(auto, unfolding(crate::proofs::Cases::frames))]
 pub(crate) fn points_written() {
     // Writes of the points: each table's count, and its columns.
     asks(
@@ -208,6 +216,7 @@ pub(crate) fn points_written() {
     );
 }
 
+#[tactic(auto, unfolding(crate::proofs::Cases::frames))]
 pub(crate) fn temperature_points_written() {
     // CTG at the largest float that it takes, 13,421,772 ÷ 2^27.
     asks(
@@ -236,6 +245,7 @@ pub(crate) fn temperature_points_written() {
     );
 }
 
+#[tactic(auto, unfolding(crate::proofs::Cases::frames))]
 pub(crate) fn not_served() {
     // 12 comes before all else.
     refused(b"\x01\x03\x00\x14\x00\x02\x84\x0f", 8, 1, 12);
@@ -253,6 +263,7 @@ pub(crate) fn not_served() {
     refused(b"\x00\x06\x81\xb2", 9, 1, 14);
 }
 
+#[tactic(auto, unfolding(crate::proofs::Cases::frames))]
 pub(crate) fn misdirected() {
     // 16: length, quantity and byte count, before the address.
     refused(b"\x01\x03\x40\x21", 9, 1, 16);
@@ -288,6 +299,7 @@ pub(crate) fn misdirected() {
     );
 }
 
+#[tactic(auto, unfolding(crate::proofs::Cases::frames))]
 pub(crate) fn unlisted() {
     // 15: beside the figures' registers, 42, 43, 46, 58, 60, 68 and 126 (Change 1), and a write there.
     refused(b"\x01\x03\x00\x54\x00\x02\x85\xdb", 9, 1, 15);
@@ -311,6 +323,7 @@ pub(crate) fn unlisted() {
     );
 }
 
+#[tactic(auto, unfolding(crate::proofs::Cases::frames))]
 pub(crate) fn unfit() {
     // 16: a read-only register, and what SZ and FLAG do not take, of a broadcast too.
     refused(
@@ -345,6 +358,7 @@ pub(crate) fn unfit() {
     );
 }
 
+#[tactic(auto, unfolding(crate::proofs::Cases::frames))]
 pub(crate) fn unfit_figures() {
     // 16: CTG 0.1, FFLV −2^−149, FFST 0.5, CTO just beyond 20, and a gain that is a NaN, sent to all stations.
     refused(
@@ -379,6 +393,7 @@ pub(crate) fn unfit_figures() {
     );
 }
 
+#[tactic(auto, unfolding(crate::proofs::Cases::frames))]
 pub(crate) fn long() {
     // 256 bytes, the most, are judged, and of a wrong length (16); 257 are not, though the checksum is right.
     let mut longest = [0u8; 256];

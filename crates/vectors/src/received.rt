@@ -27,6 +27,7 @@ fn unfit(register: u32, bits: u32)
 }
 
 // SZ takes it, by its own test too.
+#[tactic(auto, unfolding(register::specs::Register::range_of, register::specs::Register::access_of))]
 fn zero_is(bits: u32, steps: i64)
     requires bits_value { takes (range_of SZ) (of_bits binary32 bits) ≡ true }
     requires bits_value_2 { counted (range_of SZ) (of_bits binary32 bits) ≡ steps }
@@ -36,6 +37,7 @@ fn zero_is(bits: u32, steps: i64)
 }
 
 // SZ does not take it, by neither test.
+#[tactic(auto, unfolding(register::specs::Register::range_of, register::specs::Register::access_of))]
 fn zero_unfit(bits: u32)
     requires { takes (range_of SZ) (of_bits binary32 bits) ≡ false }
 {
@@ -43,6 +45,7 @@ fn zero_unfit(bits: u32)
     unfit(register::SZ, bits);
 }
 
+#[tactic(auto, unfolding(crate::proofs::Cases::floats))]
 pub(crate) fn zeros() {
     // At and beside half a step: halves go away from zero.
     zero_is(0x37000000, 1);
@@ -68,6 +71,7 @@ pub(crate) fn zeros() {
     zero_unfit(0x7fc00000);
 }
 
+#[tactic(auto, unfolding(crate::proofs::Cases::floats))]
 pub(crate) fn flags() {
     // Both ends, −0.0, 1 and REBOOT.
     is(register::FLAG, 0x00000000, 0);
@@ -85,6 +89,7 @@ pub(crate) fn flags() {
     unfit(register::FLAG, 0x7fc00001);
 }
 
+#[tactic(auto, unfolding(crate::proofs::Cases::floats))]
 pub(crate) fn gains() {
     // 1, 2, the float nearest to 1.1, and the ends, ±64.
     is(register::CGAI, 0x3f800000, 268435456);
@@ -115,6 +120,7 @@ pub(crate) fn gains() {
     unfit(register::SGAI, 0xc1000001);
 }
 
+#[tactic(auto, unfolding(crate::proofs::Cases::floats))]
 pub(crate) fn adjustments() {
     // CTG ends at 26,843,545, which is no float: 0.1 is 26,843,546, and the float below it 26,843,544.
     unfit(register::CTG, 0x3dcccccd);
@@ -130,6 +136,7 @@ pub(crate) fn adjustments() {
     unfit(register::CTO_LAST, 0xc1a00001);
 }
 
+#[tactic(auto, unfolding(crate::proofs::Cases::floats))]
 pub(crate) fn offsets() {
     // COFS: halves, the ends, just beyond, infinities and a NaN.
     is(register::COFS, 0x37000000, 1);
@@ -160,6 +167,7 @@ pub(crate) fn offsets() {
     unfit(register::CT_LAST, 0x43480001);
 }
 
+#[tactic(auto, unfolding(crate::proofs::Cases::floats))]
 pub(crate) fn filters() {
     // FFLV: −0.0 is 0, and what is below 0 is unfit though it would round to 0 (−2^−149).
     is(register::FFLV, 0x00000000, 0);
@@ -184,6 +192,7 @@ pub(crate) fn filters() {
     unfit(register::FFST, 0x7fc00000);
 }
 
+#[tactic(auto, unfolding(crate::proofs::Cases::floats))]
 pub(crate) fn counts() {
     // CLN, 2 to 7: the ends; beyond them and beside them, a fraction and a NaN.
     is(register::CLN, 0x40000000, 2);

@@ -29,6 +29,7 @@ fn exception_is(frame: &[u8], number: u8, expected: &[u8], length: usize)
     check::expect(check::same(&buffer, expected));
 }
 
+#[tactic(auto, using(crate::proofs::Cases::replied), unfolding(crate::proofs::Cases::replies))]
 pub(crate) fn replies() {
     // 001's read reply, another value, and the silence of a broadcast.
     value_is(
@@ -67,6 +68,7 @@ pub(crate) fn replies() {
     );
 }
 
+#[tactic(auto, using(crate::proofs::Cases::replied), unfolding(crate::proofs::Cases::replies))]
 pub(crate) fn exceptions() {
     // 10, 11 and 16 on a read.
     exception_is(
@@ -102,6 +104,7 @@ pub(crate) fn exceptions() {
     );
 }
 
+#[tactic(auto, using(crate::proofs::Cases::replied), unfolding(crate::proofs::Cases::replies))]
 pub(crate) fn exceptions_to_writes() {
     // 15, 10 and 16 on a write, and 17 (Change 1).
     exception_is(
@@ -130,6 +133,7 @@ pub(crate) fn exceptions_to_writes() {
     );
 }
 
+#[tactic(auto, using(crate::proofs::Cases::replied), unfolding(crate::proofs::Cases::replies))]
 pub(crate) fn silences() {
     // No reply to a broadcast, nor with 13 or 12.
     exception_is(

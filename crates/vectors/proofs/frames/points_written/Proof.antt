@@ -1,9 +1,0 @@
--- Each case of `vectors::frames::points_written` computes to what is expected. Assumes nothing.
-use borrow.Author.Rules.{rules}
-use Rattle.vectors.proofs.Cases.{frames}
-use Rattle.vectors.proofs.frames.points_written.Statement.{statement}
-use Rattle.vectors.proofs.frames.points_written.Tie as tie
-
-pub points-written-spec : {M : Type 1} → statement M
-unfolding frames
-points-written-spec = tie.close (search (rules, tie.spec))
