@@ -67,14 +67,25 @@ fn put_identity(to: &mut [u8], identity: Identity)
     put_figure(to, 9, identity.day);
 }
 
+// Copies all of `from` into a buffer from a place on.
+fn copy(from: &[u8], to: &mut [u8], at: usize)
+    requires { at + length from.now ≤ length to.old }
+    ensures { Put from.now to.old at to.new (at + length from.now) }
+{
+    let mut i: usize = 0;
+    while i < from.len() {
+        to[at + i] = from[i];
+        i += 1;
+    }
+}
+
 // The new form of an old sheet, at the front of a buffer.
 fn put_new(to: &mut [u8], identity: Identity, sheet: &[u8])
     requires { identity_size + length sheet.now ≤ length to.old }
     ensures { to.new ≡ put_at_front (to_new identity sheet.now) to.old }
 {
     put_identity(to, identity);
-    let at = places::IDENTITY_SIZE;
-    to[at..at + sheet.len()].copy_from_slice(sheet);
+    copy(sheet, to, places::IDENTITY_SIZE);
 }
 
 // The old sheet in a new one, at the front of a buffer.
@@ -82,8 +93,7 @@ fn put_old(to: &mut [u8], sheet: &[u8])
     requires { (identity_size ≤ length sheet.now) × (length sheet.now ≤ identity_size + length to.old) }
     ensures { to.new ≡ put_at_front (to_old sheet.now) to.old }
 {
-    let at = places::IDENTITY_SIZE;
-    to[..sheet.len() - at].copy_from_slice(&sheet[at..]);
+    copy(&sheet[places::IDENTITY_SIZE..], to, 0);
 }
 
 // A copy of the bytes written, at the front of the scratch.
@@ -91,7 +101,7 @@ fn keep_copy(out: &[u8], written: usize, scratch: &mut [u8])
     requires { (written ≤ length out.now) × (written ≤ length scratch.old) }
     ensures { scratch.new ≡ put_at_front (copy_of (take written out.now)) scratch.old }
 {
-    scratch[..written].copy_from_slice(&out[..written]);
+    copy(&out[..written], scratch, 0);
 }
 
 // An old sheet to the new form, with a given identity.
