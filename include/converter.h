@@ -29,7 +29,7 @@
  * takes; converter_reading 128; converter_probe 1024; converter_report 64; converter_frame 1536; converter_weigh
  * 256.
  * Bytes of stack of liblaboratory.a, likewise, and what memcpy and memset take: converter_judge_sheet 2048;
- * converter_read_sheet 3072; converter_write_sheet 1024; converter_move_to_new 2048; converter_move_to_old 2048. */
+ * converter_read_sheet 3072; converter_write_sheet 1024; converter_move_to_new 2304; converter_move_to_old 2304. */
 #ifndef CONVERTER_H
 #define CONVERTER_H
 
