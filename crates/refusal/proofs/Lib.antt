@@ -1,0 +1,2 @@
+-- Laws of the numbers of refusals. Assumes nothing.
+pub mod Numbers
