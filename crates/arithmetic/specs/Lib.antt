@@ -4,4 +4,5 @@ pub mod Table
 pub mod Keeps
 pub mod Mirror
 pub mod Two
+pub mod Around
 pub mod ForCode

@@ -1,89 +1,51 @@
-ghost use Rattle.std.specs.Prelude.{◌≡◌, ◌≤◌, take};
-ghost use Rattle.arithmetic.specs.Table.{line, interpolated};
-ghost use Rattle.arithmetic.specs.Two.{interpolated_two};
-ghost use Rattle.arithmetic.specs.ForCode.{Computable, Segment};
+ghost use Rattle.std.specs.Prelude.{◌≡◌, ℕ, ◌≤◌, length, map, take};
+ghost use Rattle.arithmetic.specs.Table.{Point, place, line, interpolated};
+ghost use Rattle.arithmetic.specs.Around.{value_at, Lies};
+ghost use Rattle.arithmetic.specs.ForCode.{Segment};
 
 use crate::rounding::round_div;
 
-// The two values of a table's points, interpolated.
+// A point of a table: of its figures, in a row, the first is its place.
+pub trait Placed: Copy {
+    ghost point: { Self → Point };
+
+    fn place(self) -> i64
+        ensures { result ≡ place (point self) };
+}
+
+// What of a table's points tells its values at a place.
 #[derive(Clone, Copy)]
-pub struct Two {
-    pub first: i64,
-    pub second: i64,
+pub enum Around<P> {
+    // one point: its values are the table's
+    At(P),
+    // two neighbours, between which the place lies: the values are on the line from the one to the other
+    Between(P, P),
 }
 
-// Both values of a table of two to five points, rows of three figures: CTO and CTG over CT. The table is searched and read
-// here, since handing an array on by value copies it.
-pub fn interpolate_two(rows: [[i64; 3]; 5], count: usize, t: i64) -> Two
+// The points around t, of a table of two points at least: the first `count`. At or outside them the end values are kept.
+// Kept: the count stands beside all points, and `k` is counted. Where this is inlined, their number is then known and the loop unrolled;
+// by `position` over `&points[..count]` a reading takes about 50 instructions more (160).
+pub fn locate<P: Placed>(points: &[P], count: usize, t: i64) -> Around<P>
+    requires some { 1 ≤ length points.now }
     requires le_count { 2 ≤ count }
-    requires computable { Computable 1 (take count rows) }
-    requires computable_2 { Computable 2 (take count rows) }
-    ensures { result ≡ interpolated_two (take count rows) t }
+    ensures values { (j : ℕ) → value_at P.point j result t ≡ interpolated j (map P.point (take count points.now)) t }
+    ensures lies { Lies P.point (map P.point (take count points.now)) t result }
 {
-    // the figures of the row before k
-    let mut t1 = rows[0][0];
-    let mut v1 = rows[0][1];
-    let mut w1 = rows[0][2];
-    if t <= t1 {
-        return Two {
-            first: v1,
-            second: w1,
-        };
+    let mut before = points[0];
+    if t <= before.place() {
+        return Around::At(before);
     }
-    let mut k: usize = 1;
-    while k < 5 {
-        let t2 = rows[k][0];
-        let v2 = rows[k][1];
-        let w2 = rows[k][2];
-        if t <= t2 {
-            return Two {
-                first: line_at(t1, v1, t2, v2, t),
-                second: line_at(t1, w1, t2, w2, t),
-            };
+    for k in 1..points.len() {
+        let after = points[k];
+        if t <= after.place() {
+            return Around::Between(before, after);
         }
-        t1 = t2;
-        v1 = v2;
-        w1 = w2;
-        k += 1;
-        if k == count {
-            return Two {
-                first: v1,
-                second: w1,
-            };
+        before = after;
+        if k + 1 == count {
+            break;
         }
     }
-    Two {
-        first: v1,
-        second: w1,
-    }
-}
-
-// The value of a table of two to seven points, rows of two figures: CLK over CLX.
-pub fn interpolate_one(rows: [[i64; 2]; 7], count: usize, t: i64) -> i64
-    requires le_count { 2 ≤ count }
-    requires computable { Computable 1 (take count rows) }
-    ensures { result ≡ interpolated 1 (take count rows) t }
-{
-    let mut x1 = rows[0][0];
-    let mut v1 = rows[0][1];
-    if t <= x1 {
-        return v1;
-    }
-    let mut k: usize = 1;
-    while k < 7 {
-        let x2 = rows[k][0];
-        let v2 = rows[k][1];
-        if t <= x2 {
-            return line_at(x1, v1, x2, v2, t);
-        }
-        x1 = x2;
-        v1 = v2;
-        k += 1;
-        if k == count {
-            return v1;
-        }
-    }
-    v1
+    Around::At(before)
 }
 
 // The line from (t1, v1) to (t2, v2), at t.

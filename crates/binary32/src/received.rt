@@ -6,6 +6,8 @@ ghost use Rattle.binary32.specs.ForCode.{Computable};
 ghost use Rattle.binary32.specs.Units.{units, units_of};
 
 // What a register takes: it counts in 1/2^shift, from least to most; at shift 0 in whole numbers alone.
+// Kept: `Computable` is asked by three functions. As an invariant of this record, each row of the table that the definitions have
+// (register/specs/Register.antt) would carry a proof.
 #[repr(C)]
 #[derive(Clone, Copy)]
 pub struct Range {

@@ -5,7 +5,7 @@ use Prim.Native.Nat.{ℕ, zero, suc, ◌+◌, ◌-◌, ◌*◌, ◌%◌, ◌^◌
 use native.Mathlib.Nat.{lt_of_lt_of_le}
 use native.Mathlib.Omega.{arith}
 use lib.Bits.{bit_xor, xor_zero_r, xor_lt}
-use lib.ListN.{length, get_or, take, drop, length-drop}
+use lib.ListN.{length, get_or, take, drop, take-append-drop, length-drop}
 use lib.Pow.{pow_mono, shl_exact}
 use lib.Seq.{length-take-le, take-add, get_or-drop}
 use Rattle.integers.specs.Bytes.{word_of}
@@ -34,6 +34,10 @@ from-append [] m c = refl
 from-append (b ∷ rest) m c = from-append rest m (with_byte c b)
 
 -- ---- of a slice
+
+-- the first k bytes, and then the others
+pub in_parts : (k : ℕ) (l : List ℕ) (c : ℕ) → checksum_from (checksum_from c (take k l)) (drop k l) ≡ checksum_from c l
+in_parts k l c = sym (from-append (take k l) (drop k l) c) ∙ ap (checksum_from c) (take-append-drop k l)
 
 pub bytes-taken : (k : ℕ) (l : List ℕ) → ((j : ℕ) → get_or l j 0 < 256) → Bytes (take k l)
 bytes-taken zero l h = tt

@@ -1,7 +1,7 @@
 // Modbus CRC-16 (01, "The bus"; the rule is the Modbus standard's).
 #![tactic(auto)]
 
-ghost use Rattle.std.specs.Prelude.{◌≡◌, ◌+◌, ◌-◌, ◌≤◌, ◌<◌, length, take, drop};
+ghost use Rattle.std.specs.Prelude.{◌≡◌, ◌≤◌, length, take};
 ghost use Rattle.checksum.specs.Checksum.{shifts, checksum_from, checksum_of};
 
 use integers::bytes::four_to_eight_at;
@@ -20,13 +20,13 @@ fn sixty_four_shifts(x: u64) -> u16
     ((remainder * 2) as u16) ^ (odd * 0xc001)
 }
 
-// Four to eight bytes from the place i on, taken in at once as one number: its shifts are sixty-four of
-// it as many places higher as they are fewer.
-fn take_number(sum: u16, bytes: &[u8], i: usize, count: usize) -> u16
-    requires { (4 ≤ count) × (count ≤ 8) × (i + count ≤ length bytes.now) }
-    ensures { result ≡ checksum_from sum (take count (drop i bytes.now)) }
+// Four to eight bytes, taken in at once as one number: its shifts are sixty-four of it as many places higher as they are fewer.
+fn take_number(sum: u16, bytes: &[u8]) -> u16
+    requires { (4 ≤ length bytes.now) × (length bytes.now ≤ 8) }
+    ensures { result ≡ checksum_from sum bytes.now }
 {
-    let number = (sum as u64) ^ four_to_eight_at(bytes, i, count);
+    let count = bytes.len();
+    let number = (sum as u64) ^ four_to_eight_at(bytes, 0, count);
     sixty_four_shifts(number << (64 - 8 * (count as u64)))
 }
 
@@ -34,45 +34,35 @@ fn take_number(sum: u16, bytes: &[u8], i: usize, count: usize) -> u16
 pub fn checksum(bytes: &[u8], count: usize) -> u16
     ensures { result ≡ checksum_of (take count bytes.now) }
 {
-    let n = bytes.len();
-    if n <= count {
-        return checksum_of_front(bytes, n);
-    }
-    checksum_of_front(bytes, count)
+    checksum_of_all(&bytes[..count.min(bytes.len())])
 }
 
-fn checksum_of_front(bytes: &[u8], count: usize) -> u16
-    requires { count ≤ length bytes.now }
-    ensures { result ≡ checksum_of (take count bytes.now) }
+fn checksum_of_all(bytes: &[u8]) -> u16
+    ensures { result ≡ checksum_of bytes.now }
 {
     let mut sum: u16 = 0xffff;
-    let mut i: usize = 0;
-    while count - i >= 8 {
-        sum = take_number(sum, bytes, i, 8);
-        i += 8;
+    let mut rest = bytes;
+    while let Some((eight, others)) = rest.split_at_checked(8) {
+        sum = take_number(sum, eight);
+        rest = others;
     }
-    if i == count {
-        return sum;
+    match rest.len() {
+        0 => sum,
+        1..=3 => take_few(sum, rest),
+        _ => take_number(sum, rest),
     }
-    if count - i >= 4 {
-        return take_number(sum, bytes, i, count - i);
-    }
-    take_few(sum, bytes, i, count)
 }
 
-// The bytes from the place `from` on, one to seven, taken in at once: each is set at the top of a word, the
-// last one topmost, and the sum on the first. What of the sum is above them only moves down. Each byte
-// is read by itself, so that a compiler finds those that were just stored.
-fn take_few(sum: u16, bytes: &[u8], from: usize, count: usize) -> u16
-    requires { (from < count) × (count ≤ from + 7) × (count ≤ length bytes.now) }
-    ensures { result ≡ checksum_from sum (take (count - from) (drop from bytes.now)) }
+// One to seven bytes, taken in at once: each is set at the top of a word, the last one topmost, and the sum on the first. What of the
+// sum is above them only moves down. Each byte is read by itself, so that a compiler finds those that were just stored.
+fn take_few(sum: u16, bytes: &[u8]) -> u16
+    requires { (1 ≤ length bytes.now) × (length bytes.now ≤ 7) }
+    ensures { result ≡ checksum_from sum bytes.now }
 {
-    let n = (count - from) as u64;
+    let n = bytes.len() as u64;
     let mut word: u64 = 0;
-    let mut i: u64 = 0;
-    while i < n {
-        word += (bytes[count - 1 - (i as usize)] as u64) << (56 - 8 * i);
-        i += 1;
+    for i in 0..n {
+        word += (bytes[(n - 1 - i) as usize] as u64) << (56 - 8 * i);
     }
     let above = ((sum as u64) >> (8 * n)) as u16;
     sixty_four_shifts(word ^ ((sum as u64) << (64 - 8 * n))) ^ above
@@ -83,5 +73,5 @@ pub fn checksum_of_few(bytes: &[u8], count: usize) -> u16
     requires { (1 ≤ count) × (count ≤ 7) × (count ≤ length bytes.now) }
     ensures { result ≡ checksum_of (take count bytes.now) }
 {
-    take_few(0xffff, bytes, 0, count)
+    take_few(0xffff, &bytes[..count])
 }

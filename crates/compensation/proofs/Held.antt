@@ -1,7 +1,9 @@
 -- Holding within limits does not take a value and its exact value apart; and away from a limit both are on one side of it.
 -- Assumes nothing.
 use mathlib.Core.Logic.{◌↔◌}
-use mathlib.Core.Bool.{cond}
+use mathlib.Core.Path.{◌≡◌, refl}
+use mathlib.Core.Bool.{false, cond}
+use Rattle.std.specs.Int.{int_max, int_min}
 use Prim.Native.Nat.{ℕ, ◌*◌, ◌≤◌}
 use native.Mathlib.Omega.{arith}
 use native.Mathlib.Nat.{mul-le-mul_right, mul-le-mul_left, le_of_mul-le-mul_right}
@@ -10,7 +12,7 @@ use lib.Signed.{lt_z, ◌≤ℤ◌, ◌<ℤ◌, ≤ℤ_refl}
 use Rattle.integers.specs.Within.{◌within◌}
 use Rattle.integers.proofs.Parts.{le_parts}
 use Rattle.integers.proofs.Difference.{Difference, ⟨◌⟩, nat, ◌⊝◌, ◌⊗◌, le?, lt?, abs!, abs-above, abs-below}
-use Rattle.integers.proofs.Order.{pick, lt_yes, lt_no, <-≤, <-unless}
+use Rattle.integers.proofs.Order.{pick, lt_yes, lt_no, no_lt, ≤_trans, <-≤, <-unless}
 use Rattle.integers.proofs.Magnitude.{abs-pos, within-between}
 use Rattle.arithmetic.specs.Fraction.{Fraction, ◌over◌, whole, Near}
 use Rattle.arithmetic.proofs.Near.{one-pos, near-whole}
@@ -22,6 +24,14 @@ unfolding hold
 hold-within {n} lo hi x a b =
     pick (lt_z x lo) lo (cond (lt_z hi x) hi x) (λ z. z within n) (λ _. a)
     (λ c. pick (lt_z hi x) hi x (λ z. z within n) (λ _. b) (λ d. within-between a b (lt_no c) (lt_no d)))
+
+-- std's `clamp` says the same, for limits that are in order
+pub clamped : (lo hi x : ℤ) → lo ≤ℤ hi → int_max lo (int_min x hi) ≡ hold lo hi x
+unfolding hold
+clamped lo hi x l =
+    pick (lt_z hi x) hi x (λ (z : ℤ). cond (lt_z z lo) lo z ≡ cond (lt_z x lo) lo z)
+    (λ e. let a : lt_z hi lo ≡ false = no_lt l in let b : lt_z x lo ≡ false = no_lt (≤_trans l (<-≤ (lt_yes e))) in rw (a, b))
+    (λ e. refl)
 
 -- ---- a distance that is no larger
 

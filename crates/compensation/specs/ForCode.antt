@@ -5,7 +5,7 @@ use Rattle.std.specs.Prelude.{◌≡◌, ℕ, eqb, ℤ, ◌+ℤ◌, ◌-ℤ◌, 
 use Rattle.std.specs.Int.Bits.{bit_or}
 use Rattle.integers.specs.Within.{◌within◌}
 use Rattle.arithmetic.specs.Table.{interpolated}
-use Rattle.figures.specs.Limits.{cto_most, ctg_most, cell_most, system_most}
+use Rattle.figures.specs.Limits.{cto_most, ctg_most}
 use Rattle.figures.specs.Acceptable.{CellAcceptable, LinearityAcceptable, SystemAcceptable, FilterAcceptable}
 use Rattle.figures.specs.Rows.{linearities, temperatures}
 use Rattle.figures.specs.declared.Cell.{Cell}
@@ -91,18 +91,10 @@ pub record AdjustInput (y g : ℤ) : Type 0 where
   pub y_in : y within 2600468480
   pub g_in : g within ctg_most
 
-pub record CorrectInput (l : Linearity) (craw : ℤ) : Type 0 where
-  pub acceptable : LinearityAcceptable l
-  pub craw_in : craw within cell_most
-
 -- step 5
 pub record SystemInput (s : System) (cell : ℤ) : Type 0 where
   pub acceptable : SystemAcceptable s
   pub cell_in : cell within 2162688000
-
-pub record NetInput (s : System) (sraw : ℤ) : Type 0 where
-  pub acceptable : SystemAcceptable s
-  pub sraw_in : sraw within system_most
 
 -- what steps 3 and 4 leave by acceptable figures
 pub record ValuesInput (c : Cell) (s : System) (v : CellValues) : Type 0 where

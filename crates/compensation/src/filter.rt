@@ -3,29 +3,20 @@ ghost use Rattle.std.specs.Prelude.{◌≡◌};
 ghost use Rattle.compensation.specs.Filter.{filtered};
 ghost use Rattle.compensation.specs.ForCode.{FilterInput};
 
-use arithmetic::{magnitude, round_div};
+use arithmetic::round_div;
 use figures::Filter;
 
 // The held value after an input, which is ELEC from there on; `first` says that no value is held yet. `previous` is the input before
 // this one: by it the filter is bypassed, however far the held value has fallen behind. FFLV is tested for 0 last, since that decides
 // only where the input has not moved.
+// Kept: `first` stands beside the values, as the state holds them for C. An `Option` of them would be made at the one call, and be taken
+// apart here.
 pub fn filter_input(f: Filter, first: bool, previous: i64, held: i64, input: i64) -> i64
     requires { FilterInput f previous held input }
     ensures { result ≡ filtered f first previous held input }
 {
-    let level = f.fflv;
-    let steps = f.ffst;
-    if first {
+    if first || f.ffst == 0 || (f.fflv as u64) < (input - previous).unsigned_abs() || f.fflv == 0 {
         return input;
     }
-    if steps == 0 {
-        return input;
-    }
-    if (level as u64) < magnitude(input - previous) {
-        return input;
-    }
-    if level == 0 {
-        return input;
-    }
-    held + round_div(input - held, steps)
+    held + round_div(input - held, f.ffst)
 }

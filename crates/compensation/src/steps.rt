@@ -1,15 +1,12 @@
 // Steps 2 to 5 (01, "The reading").
 ghost use Rattle.std.specs.Prelude.{◌≡◌, ◌+ℤ◌, ◌-ℤ◌, ◌*ℤ◌};
 ghost use Rattle.integers.specs.Within.{◌within◌};
-ghost use Rattle.arithmetic.specs.Table.{interpolated};
 ghost use Rattle.figures.specs.Acceptable.{TemperatureAcceptable};
-ghost use Rattle.figures.specs.Rows.{linearities};
-ghost use Rattle.compensation.specs.Hold.{hold};
 ghost use Rattle.compensation.specs.Reading.{one, scaled};
-ghost use Rattle.compensation.specs.ForCode.{input_at, cell_values_at, values_from, CellInput, ValuesInput, GainInput, AdjustInput, CorrectInput, SystemInput, NetInput};
+ghost use Rattle.compensation.specs.ForCode.{input_at, cell_values_at, values_from, CellInput, ValuesInput, GainInput, AdjustInput, SystemInput};
 
 use crate::stat::stat_bits;
-use crate::tables::{adjustments, correction};
+use crate::tables::{Adjustment, adjustments, correction};
 use figures::{Calibration, Cell, Linearity, System, Temperature};
 
 // What steps 1 and 2 give: ELEC as the filter holds it, and o and g at TEMP.
@@ -30,7 +27,7 @@ pub struct CellValues {
 
 // What a reading leaves.
 #[repr(C)]
-#[derive(Clone, Copy)]
+#[derive(Clone, Copy, Default)]
 pub struct Values {
     pub craw: i64,
     pub cell: i64,
@@ -47,12 +44,8 @@ pub fn input_at(temperature: Temperature, elec: i64, temp: i64) -> Input
     requires { TemperatureAcceptable temperature }
     ensures { result ≡ input_at temperature elec temp }
 {
-    let adjustment = adjustments(temperature, temp);
-    Input {
-        elec,
-        o: adjustment.first,
-        g: adjustment.second,
-    }
+    let Adjustment { o, g } = adjustments(temperature, temp);
+    Input { elec, o, g }
 }
 
 // Steps 3 and 4.
@@ -62,12 +55,12 @@ pub fn cell_values(cell: Cell, linearity: Linearity, input: Input) -> CellValues
 {
     let y = gained(cell, input.o, input.elec);
     let raw = adjusted(y, input.g);
-    let craw = hold_cell(cell, raw);
-    let corrected_cell = corrected(linearity, craw);
+    let craw = raw.clamp(cell.cmin, cell.cmax);
+    let corrected = craw + correction(linearity, craw);
     CellValues {
         raw,
         craw,
-        cell: corrected_cell,
+        cell: corrected,
     }
 }
 
@@ -84,8 +77,8 @@ pub fn values_from(
     ensures { result ≡ values_from cell system values elec temp integrity }
 {
     let raw_system = scaled_system(system, values.cell);
-    let sraw = hold_system(system, raw_system);
-    let sys = net(system, sraw);
+    let sraw = raw_system.clamp(system.smin, system.smax);
+    let sys = sraw - system.sz;
     let stat = stat_bits(
         elec,
         temp,
@@ -118,18 +111,6 @@ fn scale(x: i64, gain: i64) -> i64
     (product + HALF + (product >> 63)) >> 28
 }
 
-fn hold_within(lo: i64, hi: i64, x: i64) -> i64
-    ensures { result ≡ hold lo hi x }
-{
-    if x < lo {
-        return lo;
-    }
-    if hi < x {
-        return hi;
-    }
-    x
-}
-
 // y.
 fn gained(c: Cell, o: i64, elec: i64) -> i64
     requires { GainInput c o elec }
@@ -146,40 +127,10 @@ fn adjusted(y: i64, g: i64) -> i64
     scale(y, Calibration::UNIT + g)
 }
 
-// CRAW.
-fn hold_cell(c: Cell, raw: i64) -> i64
-    ensures { result ≡ hold c.cmin c.cmax raw }
-{
-    hold_within(c.cmin, c.cmax, raw)
-}
-
-// CELL.
-fn corrected(table: Linearity, craw: i64) -> i64
-    requires { CorrectInput table craw }
-    ensures { result ≡ craw +ℤ interpolated 1 (linearities table) craw }
-{
-    craw + correction(table, craw)
-}
-
 // The raw system value.
 fn scaled_system(s: System, cell: i64) -> i64
     requires { SystemInput s cell }
     ensures { result ≡ scaled (cell -ℤ s.sofs) s.sgai }
 {
     scale(cell - s.sofs, s.sgai)
-}
-
-// SRAW.
-fn hold_system(s: System, raw: i64) -> i64
-    ensures { result ≡ hold s.smin s.smax raw }
-{
-    hold_within(s.smin, s.smax, raw)
-}
-
-// SYS.
-fn net(s: System, sraw: i64) -> i64
-    requires { NetInput s sraw }
-    ensures { result ≡ sraw -ℤ s.sz }
-{
-    sraw - s.sz
 }

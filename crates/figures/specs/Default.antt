@@ -3,8 +3,6 @@
 use Rattle.std.specs.Prelude.{[], ◌∷◌, ◌*◌, ℤ, pos, neg_ℤ}
 use Rattle.figures.specs.Limits.{unit}
 use Rattle.figures.specs.Unused.{no_temperature, no_linearity}
-use Rattle.figures.specs.declared.TemperaturePoint.{TemperaturePoint}
-use Rattle.figures.specs.declared.LinearityPoint.{LinearityPoint}
 use Rattle.figures.specs.declared.Calibration.{Calibration}
 
 unfoldable pub default_sheet : Calibration

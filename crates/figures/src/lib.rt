@@ -3,6 +3,19 @@
 
 ghost use Rattle.std.specs.Prelude.{◌≡◌};
 ghost use Rattle.figures.specs.Default.{default_sheet};
+ghost use Rattle.figures.specs.Rows.{linearity_row, temperature_row};
+ghost use Rattle.figures.specs.Unused.{no_linearity, no_temperature};
+
+use arithmetic::Placed;
+
+// A point of one of the two tables.
+pub trait Point: Copy {
+    ghost unused: { Self };
+
+    // What stands past the count: 0 in each figure.
+    fn unused() -> Self
+        ensures { result ≡ unused };
+}
 
 #[repr(C)]
 #[derive(Clone, Copy)]
@@ -21,6 +34,26 @@ pub struct TemperaturePoint {
     pub ctg: i64,
 }
 
+impl Point for TemperaturePoint {
+    ghost unused = { no_temperature };
+
+    fn unused() -> TemperaturePoint {
+        TemperaturePoint {
+            ct: 0,
+            cto: 0,
+            ctg: 0,
+        }
+    }
+}
+
+impl Placed for TemperaturePoint {
+    ghost point = { temperature_row };
+
+    fn place(self) -> i64 {
+        self.ct
+    }
+}
+
 // The first ctn points are figures; what stands in the others is not looked at.
 #[repr(C)]
 #[derive(Clone, Copy)]
@@ -34,6 +67,22 @@ pub struct Temperature {
 pub struct LinearityPoint {
     pub clx: i64,
     pub clk: i64,
+}
+
+impl Point for LinearityPoint {
+    ghost unused = { no_linearity };
+
+    fn unused() -> LinearityPoint {
+        LinearityPoint { clx: 0, clk: 0 }
+    }
+}
+
+impl Placed for LinearityPoint {
+    ghost point = { linearity_row };
+
+    fn place(self) -> i64 {
+        self.clx
+    }
 }
 
 // The first cln points are figures; what stands in the others is not looked at.
@@ -115,17 +164,13 @@ impl Calibration {
     pub fn new() -> Self
         ensures { result ≡ default_sheet }
     {
-        let ct_0 = TemperaturePoint {
-            ct: 0,
-            cto: 0,
-            ctg: 0,
-        };
+        let ct_0 = TemperaturePoint::unused();
         let ct_25 = TemperaturePoint {
             ct: Calibration::ROOM,
             cto: 0,
             ctg: 0,
         };
-        let clx_0 = LinearityPoint { clx: 0, clk: 0 };
+        let clx_0 = LinearityPoint::unused();
         let clx_100 = LinearityPoint {
             clx: Calibration::FULL_SCALE,
             clk: 0,

@@ -3,6 +3,7 @@ ghost use Rattle.std.specs.Prelude.{◌≡◌, ◌+◌, ◌≤◌, ◌<◌, ◌^
 ghost use Rattle.integers.specs.Bytes.{word_of, word_bytes, signed_of, unsigned_of, Put};
 
 // The four bytes from a place on as one number, low byte first.
+// Kept: `from_le_bytes` takes an array, and no bytes stand in one on the way from a frame to its reply (tools/no-copy).
 pub fn four_at(bytes: &[u8], at: usize) -> u32
     requires { at + 4 ≤ length bytes.now }
     ensures { result ≡ word_of (take 4 (drop at bytes.now)) }
@@ -23,20 +24,20 @@ pub fn four_to_eight_at(bytes: &[u8], at: usize, count: usize) -> u64
 }
 
 // Puts the `count` lowest bytes of a word into a buffer from a place on, low byte first.
+// Kept: any count goes, so that the bytes are not a part of the eight of `to_le_bytes`.
 pub fn put_word(out: &mut [u8], at: usize, word: u64, count: usize)
     requires { at + count ≤ length out.old }
     ensures { Put (word_bytes count word) out.old at out.new (at + count) }
 {
     let mut rest = word;
-    let mut i: usize = 0;
-    while i < count {
+    for i in 0..count {
         out[at + i] = (rest % 256) as u8;
-        rest = rest / 256;
-        i += 1;
+        rest /= 256;
     }
 }
 
 // The number whose two's complement in so many bits the word is.
+// Kept: std's `cast_signed` is of words of 8, 16, 32, 64 and 128 bits alone.
 pub fn signed(word: u64, bits: u64) -> i64
     requires { (1 ≤ bits) × (bits ≤ 64) × (word < 2 ^ bits) }
     ensures { result ≡ signed_of bits word }
@@ -52,8 +53,5 @@ pub fn signed(word: u64, bits: u64) -> i64
 pub fn unsigned(v: i64) -> u64
     ensures { result ≡ unsigned_of v }
 {
-    if v < 0 {
-        return 0xffff_ffff_ffff_ffff - ((-1 - v) as u64);
-    }
-    v as u64
+    v.cast_unsigned()
 }

@@ -1,12 +1,11 @@
 -- The probe's definitions have the properties of specs/Pt100.antt. Assumes nothing.
 use mathlib.Core.Path.{◌≡◌, refl, sym, subst, ◌∙◌, ap}
 use mathlib.Core.Bool.{Bool, true, false, true≢false}
-use mathlib.Core.List.{List, [], ◌∷◌}
+use mathlib.Core.List.{[], ◌∷◌}
 use mathlib.Core.Logic.{◌↔◌}
 use Prim.Native.Nat.{ℕ, zero, suc, ◌<◌}
 use native.Mathlib.Omega.{arith}
 use lib.IntN.{ℤ, pos, negsuc, neg_ℤ, ◌+ℤ◌, ◌-ℤ◌, ◌*ℤ◌}
-use lib.ListN.{length, get_or}
 use lib.Signed.{lt_z, ◌≤ℤ◌, ◌<ℤ◌, clash_ℤ, <ℤ-≤ℤ_trans}
 use Rattle.integers.proofs.Parts.{le_parts, lt-parts}
 use Rattle.integers.proofs.Difference.{⟨◌⟩, ◌⊕◌, ◌⊝◌, ◌⊗◌, nat, eq!, le!, le?}
@@ -14,8 +13,8 @@ use Rattle.integers.proofs.Order.{lt_yes, lt_no, no_lt, gap-pos}
 use Rattle.integers.proofs.Ring.{ring, polynomials}
 use Rattle.arithmetic.specs.Round.{round_div, Nearest}
 use Rattle.arithmetic.specs.Fraction.{◌over◌}
-use Rattle.arithmetic.specs.Table.{Point, column, place}
-use Rattle.arithmetic.specs.Keeps.{Each, Rising}
+use Rattle.arithmetic.specs.Table.{column, place}
+use Rattle.arithmetic.specs.Keeps.{Each}
 use Rattle.arithmetic.proofs.Round.{round-nearest}
 use Rattle.arithmetic.proofs.Table.{Between, interpolated-at, interpolated-hull}
 use Rattle.arithmetic.proofs.Climb.{Climbing, interpolated-climbs}
@@ -23,7 +22,7 @@ use Rattle.probe.specs.Platinum.{quadratic, fourth_power, formula, entry, degree
 use Rattle.probe.specs.Probe.{is_beyond, temp_of}
 use Rattle.probe.specs.Pt100.{Measures, above, below, celsius, resistance_at, Table, Beyond, too_low, too_high, InRange, Pt100}
 use Rattle.probe.proofs.Platinum.{platinum-rises}
-use Rattle.probe.proofs.Table.{length-is, point-is, temp-between}
+use Rattle.probe.proofs.Table.{rises-at, length-is, point-is, temp-between}
 
 -- ---- the standard's figures
 
@@ -44,15 +43,6 @@ under_zero u (pos n) h = absurd (omega (arith, lt-parts h))
 under_zero u (negsuc n) h = by_three u (negsuc n)
 
 -- ---- the table
-
-rises-at : (k : ℕ) → suc k < 201 → resistance_at k <ℤ resistance_at (suc k)
-rises-at k l = neighbours_at platinum k platinum-rises (omega (arith, length-is))
-  where
-    neighbours_at : (table : List Point) (k : ℕ) → Rising table → suc k < length table → place (get_or table k []) <ℤ place (get_or table (suc k) [])
-    neighbours_at [] k h l = absurd (omega arith)
-    neighbours_at (p ∷ []) k h l = absurd (omega arith)
-    neighbours_at (p ∷ (q ∷ rest)) zero h l = h.0
-    neighbours_at (p ∷ (q ∷ rest)) (suc k) h l = neighbours_at (q ∷ rest) k h.1 (omega arith)
 
 table : Table
 unfolding entry

@@ -1,20 +1,25 @@
 -- The platinum table by its index, as the search reads it: the code's array holds its places, and TEMP is on the line between the two
 -- neighbours that have the resistance between them. Assumes nothing.
 use mathlib.Core.Path.{◌≡◌, refl, sym, subst, ◌∙◌, ap}
-use mathlib.Core.List.{List, [], map}
-use Prim.Native.Nat.{ℕ, suc, ◌<◌, ◌^◌}
+use mathlib.Core.List.{List, [], ◌∷◌, map}
+use native.Mathlib.Nat.{add-zero}
+use Rattle.std.proofs.lemmas.List.{get_or_default, length-map}
+use Rattle.std.specs.List.Sorted.{IsPartitionedBy}
+use Prim.Native.Nat.{ℕ, zero, suc, ◌+◌, ◌-◌, ◌<◌, ◌^◌}
 use native.Mathlib.Omega.{arith}
 use lib.IntN.{ℤ, pos, neg_ℤ, ◌+ℤ◌, ◌-ℤ◌, ◌*ℤ◌}
 use lib.ListN.{length, get_or, get_or-map}
-use lib.Signed.{◌≤ℤ◌, ◌<ℤ◌}
+use lib.Signed.{lt_z, ◌≤ℤ◌, ◌<ℤ◌, ≤ℤ_refl}
 use mir.Syntax.{w64}
 use mir.Val.{to_z, of_z}
 use mir.ValLaws.{to_z_pos}
 use Rattle.integers.specs.Within.{◌within◌}
 use Rattle.integers.proofs.Difference.{◌⊕◌, ◌⊝◌, ◌⊗◌, nat, minus, eq! }
 use Rattle.integers.proofs.Machine.{known, literal, sum, stored, plain, i64s}
-use Rattle.integers.proofs.Order.{yes_le, no_le}
-use Rattle.arithmetic.specs.Table.{column, place, line, between}
+use Rattle.integers.proofs.Parts.{ints, parts-lt}
+use Rattle.integers.proofs.Order.{yes_le, no_le, yes_lt, lt_yes, ≤_trans, <-≤}
+use Rattle.arithmetic.specs.Table.{Point, column, place, line, between}
+use Rattle.arithmetic.specs.Keeps.{Rising}
 use Rattle.arithmetic.specs.ForCode.{Segment}
 use Rattle.arithmetic.proofs.Table.{interpolated-past}
 use Rattle.arithmetic.proofs.Segment.{each_at, at_first, at_last, at-between}
@@ -52,6 +57,35 @@ module _ (k : ℕ) (l : k < 201) where
     -- read as an i64
     pub read_is : to_z w64 (get_or xs k 0) ≡ entry (celsius k)
     read_is = to_z_pos w64 (get_or xs k 0) (omega (arith, number-within.abs)) ∙ number_is
+
+-- ---- the table rises, so that in the code's array what lies below a resistance stands before what does not
+
+neighbours_at : (table : List Point) (k : ℕ) → Rising table → suc k < length table → place (get_or table k []) <ℤ place (get_or table (suc k) [])
+neighbours_at [] k h l = absurd (omega arith)
+neighbours_at (p ∷ []) k h l = absurd (omega arith)
+neighbours_at (p ∷ (q ∷ rest)) zero h l = h.0
+neighbours_at (p ∷ (q ∷ rest)) (suc k) h l = neighbours_at (q ∷ rest) k h.1 (omega arith)
+
+pub rises-at : (k : ℕ) → suc k < 201 → place (get_or platinum k []) <ℤ place (get_or platinum (suc k) [])
+rises-at k l = neighbours_at platinum k platinum-rises (omega (arith, length-is))
+
+climbs : (i n : ℕ) → i + n < 201 → entry (celsius i) ≤ℤ entry (celsius (i + n))
+climbs i zero l = rw add-zero (≤ℤ_refl (entry (celsius i)))
+climbs i (suc n) l =
+    let next : i + suc n ≡ suc (i + n) = omega arith in
+    let step : entry (celsius (i + n)) <ℤ entry (celsius (suc (i + n))) = rw (ap place (point-is (i + n) (omega arith)), ap place (point-is (suc (i + n)) (omega arith))) at (rises-at (i + n) (omega arith)) in
+    rw next (≤_trans (climbs i n (omega arith)) (<-≤ step))
+
+module _ {xs : List ℕ} (held : Resistances xs) where
+  pub count_is : length xs ≡ 201
+  count_is = sym (length-map xs pos) ∙ ap length held.same ∙ length-map platinum place ∙ length-is
+
+  pub parted : (r : ℤ) → IsPartitionedBy (λ (x : ℕ). lt_z (to_z w64 x) r) xs
+  parted r i j d h l e =
+      let m : j < 201 = omega (arith, count_is) in
+      let below : entry (celsius j) <ℤ r = lt_yes (rw (read_is j m held) at (rw (get_or_default xs j d 0 l) at e)) in
+      let up : entry (celsius i) ≤ℤ entry (celsius j) = rw (let n : i + (j - i) ≡ j = omega arith in n) at (climbs i (j - i) (omega arith)) in
+      rw (get_or_default xs i d 0 (omega (arith, count_is)), read_is i (omega arith) held) (yes_lt (parts-lt (entry (celsius i)) r (omega ints)))
 
 -- the °C as the code counts it
 index-within : (k : ℕ) → k < 201 → (to_z w64 k) within 200

@@ -212,41 +212,32 @@ const RESISTANCES: [u32; 201] = [
     1573251,
 ];
 
+// The same where it lies in memory that is only read: a const would be laid out on the stack of each call.
+static TABLE: [u32; 201] = RESISTANCES;
+
 // 20: a resistance below that of −50 °C or above that of 150 °C.
 #[tactic(auto, unfolding(crate::specs::Probe::is_beyond))]
 pub fn is_beyond(resistance: i64) -> bool
     ensures { result ≡ is_beyond resistance }
 {
-    if resistance < 803063 {
-        return true;
-    }
-    1573251 < resistance
+    resistance < 803063 || 1573251 < resistance
 }
 
-// TEMP at a resistance, interpolated between the entries; beyond them the end's is kept. The table is laid out once and searched by
-// halving: the entry at `low` is below the resistance, the one at `high` is not.
+// TEMP at a resistance, interpolated between the entries; beyond them the end's is kept. The entries before `high` are below the
+// resistance, the others are not.
 pub fn temp_of(resistance: i64) -> i64
     ensures { result ≡ temp_of resistance }
 {
-    let table = RESISTANCES;
-    if resistance <= table[0] as i64 {
+    let high = TABLE.partition_point(|&entry| (entry as i64) < resistance);
+    if high == 0 {
         return -50 * 65536;
     }
-    if (table[200] as i64) < resistance {
+    if high == 201 {
         return 150 * 65536;
     }
-    let mut low: usize = 0;
-    let mut high: usize = 200;
-    while low + 1 < high {
-        let middle = (low + high) / 2;
-        if resistance <= table[middle] as i64 {
-            high = middle;
-        } else {
-            low = middle;
-        }
-    }
-    let x1 = table[low] as i64;
-    let x2 = table[high] as i64;
+    let low = high - 1;
+    let x1 = TABLE[low] as i64;
+    let x2 = TABLE[high] as i64;
     let v1 = (low as i64 - 50) * 65536;
     let v2 = v1 + 65536;
     line_at(x1, v1, x2, v2, resistance)

@@ -1,57 +1,78 @@
--- `temp_of` meets its contract: the search ends between two neighbours of the table. Assumes nothing.
+-- `temp_of` meets its contract: `partition_point` ends between two neighbours of the table. Assumes nothing.
 use mathlib.Core.Path.{◌≡◌, refl, sym, ◌∙◌, ap}
-use Prim.Native.Nat.{suc, ◌+◌, ◌/◌, ◌<◌}
+use mathlib.Core.Bool.{true, false}
+use Prim.Native.Nat.{ℕ, suc, ◌-◌, ◌<◌, ◌≤◌}
 use native.Mathlib.Omega.{arith}
+use lib.Signed.{lt_z, ◌≤ℤ◌, ◌<ℤ◌}
 use mir.Syntax.{w64}
+use mir.Val.{to_z, of_z}
 use mir.ValLaws.{to_z-of_z}
-use Rattle.integers.proofs.Machine.{held}
-use Rattle.integers.proofs.Order.{le_yes, le-no, lt_yes, lt_no}
+use borrow.Author.Rules.{rules}
+use Rattle.std.specs.List.Sorted.{IsPartitionPoint}
+use Rattle.std.proofs.lemmas.List.Sorted.{IsPartitionPoint-from_clause}
+use Rattle.integers.proofs.Machine.{held as held_is}
+use Rattle.integers.proofs.Order.{lt_yes, lt_no}
 use Rattle.arithmetic.specs.Round.{round_div, round_magnitude}
 use Rattle.probe.specs.Platinum.{formula, entry, platinum}
+use Rattle.probe.specs.Pt100.{celsius}
 use Rattle.probe.specs.Probe.{temp_of}
-use Rattle.probe.proofs.Table.{read_is, counted_is, counted_next, temp-first, temp-last, temp-between, segment}
+use Rattle.probe.specs.declared.TheConstants.{RESISTANCES}
+use Rattle.probe.proofs.Table.{Resistances, parted, read_is, counted_is, counted_next, temp-first, temp-last, temp-between, segment}
+use Rattle.probe.proofs.temp_of.Goals.{After-partition_point-high}
 use Rattle.probe.proofs.temp_of.Goals as goal
 
-pub returns-then-resistance-table : goal.returns-then-resistance-table
-unfolding entry formula round_div round_magnitude
-returns-then-resistance-table c = sym (temp-first c.args.resistance (rw (sym (to_z-of_z w64 c.args.resistance c.ranges.resistance)) (le_yes c.if-resistance-table.true)))
-
-pub returns-then-table-resistance : goal.returns-then-table-resistance
-unfolding entry formula round_div round_magnitude
-returns-then-table-resistance c = sym (temp-last c.args.resistance (rw (sym (to_z-of_z w64 c.args.resistance c.ranges.resistance)) (lt_yes c.if-table-resistance.true)))
-
-pub loop-low-init : goal.loop-low-init
+held : Resistances RESISTANCES
 unfolding platinum entry formula round_div round_magnitude
-loop-low-init c = (record { same = refl }, omega arith, omega arith, le-no c.if-resistance-table.false, lt_no c.if-table-resistance.false)
+held = record { same = refl }
 
-pub loop-low-preserved-then-resistance-table-2 : goal.loop-low-preserved-then-resistance-table-2
-loop-low-preserved-then-resistance-table-2 c =
-    let h = c.loop-low.invariant in
-    let inside : (c.loop-low.low + c.loop-low.high) / 2 < 201 = omega arith in
-    (h.0, omega arith, omega arith, h.3, le_yes (rw (read_is ((c.loop-low.low + c.loop-low.high) / 2) inside h.0) at c.if-resistance-table-2.true))
+point : (c : After-partition_point-high) → let r = to_z w64 (of_z w64 c.args.resistance) in IsPartitionPoint (λ (x : ℕ). lt_z (to_z w64 x) r ≡ true) (λ (x : ℕ). lt_z (to_z w64 x) r ≡ false) RESISTANCES c.partition_point-high.result
+point c =
+    let r = to_z w64 (of_z w64 c.args.resistance) in
+    IsPartitionPoint-from_clause (λ (x : ℕ). lt_z (to_z w64 x) r) RESISTANCES _ c.partition_point-high.ensures.partitioned (parted held r) (λ a r q k. search rules)
 
-pub loop-low-preserved : goal.loop-low-preserved
-loop-low-preserved c =
-    let h = c.loop-low.invariant in
-    let inside : (c.loop-low.low + c.loop-low.high) / 2 < 201 = omega arith in
-    (h.0, omega arith, omega arith, le-no (rw (read_is ((c.loop-low.low + c.loop-low.high) / 2) inside h.0) at c.if-resistance-table-2.false), h.4)
+-- the entries before `high` are below the resistance, and that at `high` is not
+below : (c : After-partition_point-high) (k : ℕ) → k < 201 → k < c.partition_point-high.result → entry (celsius k) <ℤ to_z w64 (of_z w64 c.args.resistance)
+below c k l h = lt_yes (rw (read_is k l held) at ((point c).0 k 0 (omega arith) h))
+
+upto : (c : After-partition_point-high) (k : ℕ) → k < 201 → c.partition_point-high.result ≤ k → to_z w64 (of_z w64 c.args.resistance) ≤ℤ entry (celsius k)
+upto c k l h = lt_no (rw (read_is k l held) at ((point c).1 k 0 h l))
+
+pub returns-then-high-eq0 : goal.returns-then-high-eq0
+unfolding entry formula round_div round_magnitude
+returns-then-high-eq0 c =
+    let a = (goal.at.returns-then-high-eq0 c).After-partition_point-high in
+    sym (temp-first c.args.resistance (rw (to_z-of_z w64 c.args.resistance c.ranges.resistance) at (upto a 0 (omega arith) (omega (arith, c.if-high-eq0.true)))))
+
+pub returns-then-high-eq201 : goal.returns-then-high-eq201
+unfolding entry formula round_div round_magnitude
+returns-then-high-eq201 c =
+    let a = (goal.at.returns-then-high-eq201 c).After-partition_point-high in
+    sym (temp-last c.args.resistance (rw (to_z-of_z w64 c.args.resistance c.ranges.resistance) at (below a 200 (omega arith) (omega (arith, c.if-high-eq201.true)))))
 
 pub line_at-requires : goal.line_at-requires
 line_at-requires c =
-    let h = c.loop-low.invariant in
-    let low : c.loop-low.low < 201 = omega arith in
-    let high : c.loop-low.high < 201 = omega arith in
-    let next : c.loop-low.high ≡ suc c.loop-low.low = omega arith in
-    rw (counted_is c.loop-low.low low, counted_next c.loop-low.low low, read_is c.loop-low.low low h.0, read_is c.loop-low.high high h.0)
-    (segment c.loop-low.low c.loop-low.high next high h.3 h.4)
+    let a = (goal.at.line_at-requires c).After-partition_point-high in
+    let bound : c.partition_point-high.result ≤ 201 = c.partition_point-high.ensures.bound in
+    let first = c.if-high-eq0.false in
+    let last = c.if-high-eq201.false in
+    let high = c.partition_point-high.result in
+    let inside : high < 201 = omega arith in
+    let low : high - 1 < 201 = omega arith in
+    let next : high ≡ suc (high - 1) = omega arith in
+    rw (counted_is (high - 1) low, counted_next (high - 1) low, read_is (high - 1) low held, read_is high inside held)
+    (segment (high - 1) high next inside (below a (high - 1) low (omega arith)) (upto a high inside (omega arith)))
 
 pub returns : goal.returns
 returns c =
-    let h = c.loop-low.invariant in
-    let low : c.loop-low.low < 201 = omega arith in
-    let high : c.loop-low.high < 201 = omega arith in
-    let next : c.loop-low.high ≡ suc c.loop-low.low = omega arith in
-    held c.line_at.type_inv
-    ((rw (counted_is c.loop-low.low low, counted_next c.loop-low.low low, read_is c.loop-low.low low h.0, read_is c.loop-low.high high h.0) at c.line_at.ensures)
-    ∙ sym (temp-between c.loop-low.low c.loop-low.high next high h.3 h.4)
+    let a = (goal.at.returns c).After-partition_point-high in
+    let bound : c.partition_point-high.result ≤ 201 = c.partition_point-high.ensures.bound in
+    let first = c.if-high-eq0.false in
+    let last = c.if-high-eq201.false in
+    let high = c.partition_point-high.result in
+    let inside : high < 201 = omega arith in
+    let low : high - 1 < 201 = omega arith in
+    let next : high ≡ suc (high - 1) = omega arith in
+    held_is c.line_at.type_inv
+    ((rw (counted_is (high - 1) low, counted_next (high - 1) low, read_is (high - 1) low held, read_is high inside held) at c.line_at.ensures)
+    ∙ sym (temp-between (high - 1) high next inside (below a (high - 1) low (omega arith)) (upto a high inside (omega arith)))
     ∙ ap temp_of (to_z-of_z w64 c.args.resistance c.ranges.resistance))

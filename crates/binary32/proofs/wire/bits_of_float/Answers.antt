@@ -1,21 +1,16 @@
--- `binary32::wire::bits_of_float` meets its contract: only a NaN differs from itself. Assumes nothing.
-use mathlib.Core.Path.{◌≡◌, sym, ap, ◌∙◌}
-use mathlib.Core.Bool.{false, not}
-use lib.Dec.{T}
-use lib.Ieee.{Float, nan, inf, fin, binary32, ne, is_nan, to_bits}
-use lib.Ieee.Compare.{differs_from_itself, nan_differs}
-use Rattle.integers.proofs.Order.{is_true, is_false}
+-- `binary32::wire::bits_of_float` meets its contract: a NaN is the one whose pattern is given. Assumes nothing.
+use mathlib.Core.Path.{◌≡◌, refl, sym, ap}
+use mathlib.Core.Bool.{true}
+use lib.Ieee.{Float, nan, inf, fin, binary32, is_nan, to_bits}
+use Rattle.integers.proofs.Order.{is_true}
 use Rattle.binary32.proofs.wire.bits_of_float.Goals as goal
 
-no_nan : (x : Float) → ne x x ≡ false → T (not (is_nan x))
+is-nan : (x : Float) → is_nan x ≡ true → nan ≡ x
 unfolding is_nan
-no_nan nan h = is_false (sym nan_differs ∙ h)
-no_nan (inf s) h = tt
-no_nan (fin s m e) h = tt
+is-nan nan h = refl
+is-nan (inf s) h = absurd (is_true h)
+is-nan (fin s m e) h = absurd (is_true h)
 
-pub returns-then-x : goal.returns-then-x
+pub returns-then-is_nan : goal.returns-then-is_nan
 unfolding to_bits
-returns-then-x c = sym (ap (to_bits binary32) (differs_from_itself c.args.x (is_true c.if-x.true)))
-
-pub float_to_bits-result : goal.float_to_bits-result
-float_to_bits-result c = no_nan c.args.x c.if-x.false
+returns-then-is_nan c = ap (to_bits binary32) (is-nan c.args.x (sym c.if-is_nan.ensures.value))

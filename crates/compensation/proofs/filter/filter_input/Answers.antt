@@ -17,7 +17,7 @@ use Rattle.compensation.specs.ForCode.{FilterInput}
 use Rattle.compensation.specs.ReadingLimits.{elec_most}
 use Rattle.compensation.proofs.FilterHull.{filtered-within}
 use Rattle.compensation.proofs.FilterCases.{zero_bits, not-zero-bits, more-than-level, within_level, at_first, no_level, no_steps, too_far, one-step}
-use Rattle.compensation.proofs.filter.filter_input.Goals.{After-round_div}
+use Rattle.compensation.proofs.filter.filter_input.Goals.{After-round_div, then-first-via-then-first, then-first-via-else-first+then-f-eq0, then-first-via-else-first+else-f-eq0+then-f-unsigned_abs, then-first-via-else-first+else-f-eq0+else-f-unsigned_abs+then-f-eq0-2}
 use Rattle.compensation.proofs.filter.filter_input.Goals as goal
 
 -- what fits on the way
@@ -50,36 +50,30 @@ bypassed : {input r : ℤ} → SFits w64 input → r ≡ input → to_z w64 (of_
 bypassed h e = to_z-of_z w64 _ h ∙ sym e
 
 pub returns-then-first : goal.returns-then-first
-returns-then-first c = let a = c.args in bypassed c.ranges.input (at_first a.f a.first a.previous a.held a.input c.if-first.true)
-
-pub returns-then-steps-eq0 : goal.returns-then-steps-eq0
-returns-then-steps-eq0 c =
-    let a = c.args in
-    bypassed c.ranges.input (no_steps a.f a.first a.previous a.held a.input (zero_bits a.f.ffst (steps-fits c.requires) c.if-steps-eq0.true))
-
-pub returns-then-level-magnitude : goal.returns-then-level-magnitude
-returns-then-level-magnitude c =
-    let a = c.args in
-    let p = c.requires in
-    let jump = simp (to_z-of_z, c.ranges.input, c.ranges.previous, jump_fits p) at c.magnitude.ensures in
-    let far = more-than-level a.f.fflv (a.input -ℤ a.previous) p.acceptable.fflv_at_least (rw (to_z-of_z w64 _ (level-fits p), jump) at c.if-level-magnitude.true) in
-    bypassed c.ranges.input (too_far a.f a.first a.previous a.held a.input far)
-
-pub returns-then-level-eq0 : goal.returns-then-level-eq0
-returns-then-level-eq0 c =
-    let a = c.args in
-    bypassed c.ranges.input (no_level a.f a.first a.previous a.held a.input (zero_bits a.f.fflv (level-fits c.requires) c.if-level-eq0.true))
+returns-then-first c =
+    let s = c in
+    let a = s.args in
+    let p = s.requires in
+    elim c.then-first.branch [
+      | then-first-via-then-first w ↦ bypassed s.ranges.input (at_first a.f a.first a.previous a.held a.input w.if-first.true)
+      | then-first-via-else-first+then-f-eq0 w ↦ bypassed s.ranges.input (no_steps a.f a.first a.previous a.held a.input (zero_bits a.f.ffst (steps-fits p) w.if-f-eq0.true))
+      | then-first-via-else-first+else-f-eq0+then-f-unsigned_abs w ↦
+          let jump = simp (to_z-of_z, s.ranges.input, s.ranges.previous, jump_fits p) at w.unsigned_abs.ensures.value in
+          let far = more-than-level a.f.fflv (a.input -ℤ a.previous) p.acceptable.fflv_at_least (rw (to_z-of_z w64 _ (level-fits p), jump) at w.if-f-unsigned_abs.true) in
+          bypassed s.ranges.input (too_far a.f a.first a.previous a.held a.input far)
+      | then-first-via-else-first+else-f-eq0+else-f-unsigned_abs+then-f-eq0-2 w ↦ bypassed s.ranges.input (no_level a.f a.first a.previous a.held a.input (zero_bits a.f.fflv (level-fits p) w.if-f-eq0-2.true))
+    ]
 
 -- a step is taken: the filter is on, and the input is not beyond FFLV; the sum is the rule's, and so within the range of the inputs
 sum_is : (c : After-round_div) → let a = c.args in a.held +ℤ c.round_div.result ≡ filtered a.f a.first a.previous a.held a.input
 sum_is c =
     let a = c.args in
     let p = c.requires in
-    let jump = simp (to_z-of_z, c.ranges.input, c.ranges.previous, jump_fits p) at c.magnitude.ensures in
-    let near = within_level a.f.fflv (a.input -ℤ a.previous) p.acceptable.fflv_at_least (rw (to_z-of_z w64 _ (level-fits p), jump) at c.if-level-magnitude.false) in
+    let jump = simp (to_z-of_z, c.ranges.input, c.ranges.previous, jump_fits p) at c.unsigned_abs.ensures.value in
+    let near = within_level a.f.fflv (a.input -ℤ a.previous) p.acceptable.fflv_at_least (rw (to_z-of_z w64 _ (level-fits p), jump) at c.if-f-unsigned_abs.false) in
     let step = simp (to_z-of_z, c.ranges.input, c.ranges.held, change-fits p, steps-fits p) at c.round_div.ensures in
     ap (λ (r : ℤ). a.held +ℤ r) step
-    ∙ sym (one-step a.f a.first a.previous a.held a.input c.if-first.false (not-zero-bits a.f.fflv c.if-level-eq0.false) (not-zero-bits a.f.ffst c.if-steps-eq0.false) near)
+    ∙ sym (one-step a.f a.first a.previous a.held a.input c.if-first.false (not-zero-bits a.f.fflv c.if-f-eq0-2.false) (not-zero-bits a.f.ffst c.if-f-eq0.false) near)
 
 pub overflow_add-result : goal.overflow_add-result
 overflow_add-result c =

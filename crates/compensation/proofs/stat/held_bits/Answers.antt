@@ -1,26 +1,28 @@
--- `held_bits` meets its contract: unmoved, moved up, moved down (StatBits.antt). Assumes nothing.
-use mathlib.Core.Path.{ap}
-use lib.Signed.{◌≤ℤ◌}
-use mir.Syntax.{w64}
-use mir.Val.{of_z}
+-- `held_bits` meets its contract: moved up, unmoved, moved down (StatBits.antt). Assumes nothing.
+use mathlib.Core.Path.{◌≡◌, sym}
+use lib.Signed.{◌<ℤ◌}
 use mir.ValLaws.{to_z-of_z}
-use Rattle.integers.proofs.Order.{lt_yes, lt_no, <-unless, ≤-antisym}
-use Rattle.integers.proofs.Machine.{eq-bits}
+use Rattle.std.specs.Cmp.{int_ranks}
 use Rattle.compensation.proofs.StatBits.{unmoved-none, raised-under, lowered-over}
 use Rattle.compensation.proofs.stat.held_bits.Goals as goal
 
-pub returns-then-raw-held : goal.returns-then-raw-held
-returns-then-raw-held c =
+pub returns-in-Less : goal.returns-in-Less
+returns-in-Less c =
     let s = c in
-    unmoved-none s.args.under s.args.over (eq-bits w64 s.args.raw s.args.held s.ranges.raw s.ranges.held c.if-raw-held.true)
+    let e = simp (to_z-of_z, s.ranges.raw, s.ranges.held) at c.in-Less.ensures in
+    let l : s.args.raw <ℤ s.args.held = rw (sym e) at (int_ranks s.args.raw s.args.held) in
+    raised-under s.args.under s.args.over l
 
-pub returns-then-raw-held-2 : goal.returns-then-raw-held-2
-returns-then-raw-held-2 c =
+pub returns-in-Equal : goal.returns-in-Equal
+returns-in-Equal c =
     let s = c in
-    raised-under s.args.under s.args.over (lt_yes (simp (to_z-of_z, s.ranges.raw, s.ranges.held) at c.if-raw-held-2.true))
+    let e = simp (to_z-of_z, s.ranges.raw, s.ranges.held) at c.in-Equal.ensures in
+    let l : s.args.raw ≡ s.args.held = rw (sym e) at (int_ranks s.args.raw s.args.held) in
+    unmoved-none s.args.under s.args.over l
 
-pub returns : goal.returns
-returns c =
+pub returns-in-Greater : goal.returns-in-Greater
+returns-in-Greater c =
     let s = c in
-    let l : s.args.held ≤ℤ s.args.raw = lt_no (simp (to_z-of_z, s.ranges.raw, s.ranges.held) at c.if-raw-held-2.false) in
-    lowered-over s.args.under s.args.over (<-unless s.args.held s.args.raw (λ g. c.if-raw-held.false (ap (of_z w64) (≤-antisym g l))))
+    let e = simp (to_z-of_z, s.ranges.raw, s.ranges.held) at c.in-Greater.ensures in
+    let l : s.args.held <ℤ s.args.raw = rw (sym e) at (int_ranks s.args.raw s.args.held) in
+    lowered-over s.args.under s.args.over l

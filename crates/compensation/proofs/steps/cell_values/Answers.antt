@@ -1,8 +1,14 @@
 -- `cell_values` meets its contract: each call gives its step of the reading, and the magnitudes of the steps (Magnitudes.antt)
 -- meet what the next one asks. Assumes nothing.
-use mathlib.Core.Path.{◌≡◌, refl}
+use mathlib.Core.Path.{◌≡◌, refl, ◌∙◌}
+use mir.Syntax.{w64}
+use mir.Val.{SFits, to_z, of_z}
+use mir.ValLaws.{to_z-of_z}
+use borrow.Author.Rules.{rules}
 use lib.IntN.{ℤ, ◌+ℤ◌, ◌-ℤ◌}
-use Rattle.integers.proofs.Machine.{stored_is}
+use Rattle.integers.proofs.Machine.{fits, known, stored_is}
+use Rattle.integers.proofs.Order.{<-≤}
+use Rattle.arithmetic.proofs.Table.{interpolated-within}
 use Rattle.arithmetic.specs.Table.{interpolated}
 use Rattle.figures.specs.Rows.{linearities}
 use Rattle.figures.specs.declared.Cell.{Cell}
@@ -11,7 +17,9 @@ use Rattle.compensation.specs.declared.steps.Input.{Input}
 use Rattle.compensation.specs.Hold.{hold}
 use Rattle.compensation.specs.Reading.{one, scaled}
 use Rattle.compensation.specs.ForCode.{y_at, raw_cell_at, craw_at, cell_value_at, cell_values_at, CellInput}
+use Rattle.compensation.proofs.Held.{clamped}
 use Rattle.compensation.proofs.Magnitudes.{Holds, CellMagnitudes, cell-magnitudes}
+use Rattle.compensation.proofs.steps.cell_values.Goals.{After-correction}
 use Rattle.compensation.proofs.steps.cell_values.Goals as goal
 
 -- ---- what is held: the input, and what each call gives of it
@@ -40,9 +48,12 @@ module _ {c : Cell} {l : Linearity} {i : Input} (ok : CellInput c l i) where
   unfolding craw_at
   craw_held e = stored_is in-range.craw-within.abs tt e
 
-  cell-held : {r : ℤ} → r ≡ craw_at c i +ℤ interpolated 1 (linearities l) (craw_at c i) → Holds r (cell_value_at c l i)
+  correction-held : {r : ℤ} → r ≡ interpolated 1 (linearities l) (craw_at c i) → Holds r (interpolated 1 (linearities l) (craw_at c i))
+  correction-held e = stored_is (interpolated-within 1 (linearities l) (craw_at c i) ok.linearity_ok.clk_in).abs tt e
+
+  sum_fits : SFits w64 (craw_at c i +ℤ interpolated 1 (linearities l) (craw_at c i))
   unfolding cell_value_at
-  cell-held e = stored_is in-range.cell-within.abs tt e
+  sum_fits = let h = in-range.cell-within in fits (known h) tt
 
 -- ---- the values, put together
 built : (c : Cell) (l : Linearity) (i : Input) {x y z : ℤ} → x ≡ raw_cell_at c i → y ≡ craw_at c i → z ≡ cell_value_at c l i → record { raw = x; craw = y; cell = z } ≡ cell_values_at c l i
@@ -56,20 +67,29 @@ adjusted-raw-requires c =
     let y = y-held p (simp (o-held p, elec-held p) at c.gained-y.ensures) in
     rw (y, g_held p) (record { y_in = (in-range p).y-within; g_in = p.g_in })
 
-pub corrected-corrected_cell-requires : goal.corrected-corrected_cell-requires
-corrected-corrected_cell-requires c =
-    let p = c.requires in
-    let y = y-held p (simp (o-held p, elec-held p) at c.gained-y.ensures) in
-    let raw = raw-held p (simp (y, g_held p) at c.adjusted-raw.ensures) in
-    let craw = craw_held p (simp raw at c.hold_cell-craw.ensures) in
-    rw craw (record { acceptable = p.linearity_ok; craw_in = (in-range p).craw-within })
+-- ---- what the calls give
+module _ (c : After-correction) where
+  y : Holds c.gained-y.result (y_at c.args.cell c.args.input)
+  y = y-held c.requires (simp (o-held c.requires, elec-held c.requires) at c.gained-y.ensures)
+
+  raw : Holds c.adjusted-raw.result (raw_cell_at c.args.cell c.args.input)
+  raw = raw-held c.requires (simp (y, g_held c.requires) at c.adjusted-raw.ensures)
+
+  craw : Holds c.clamp-craw.result (craw_at c.args.cell c.args.input)
+  craw =
+      let s = c in
+      let lo : to_z w64 (of_z w64 s.args.cell.cmin) ≡ s.args.cell.cmin = search rules in
+      let hi : to_z w64 (of_z w64 s.args.cell.cmax) ≡ s.args.cell.cmax = search rules in
+      craw_held c.requires ((simp (raw, lo, hi) at c.clamp-craw.ensures.value) ∙ clamped _ _ _ (<-≤ c.requires.cell_ok.ordered))
+
+  correction-is : Holds c.correction.result (interpolated 1 (linearities c.args.linearity) (craw_at c.args.cell c.args.input))
+  correction-is = correction-held c.requires (simp craw at c.correction.ensures)
+
+pub overflow_add-corrected : goal.overflow_add-corrected
+overflow_add-corrected c = rw (craw c, correction-is c) (sum_fits c.requires)
 
 pub returns : goal.returns
+unfolding cell_value_at
 returns c =
-    let p = c.requires in
     let a = c.args in
-    let y = y-held p (simp (o-held p, elec-held p) at c.gained-y.ensures) in
-    let raw = raw-held p (simp (y, g_held p) at c.adjusted-raw.ensures) in
-    let craw = craw_held p (simp raw at c.hold_cell-craw.ensures) in
-    let cell = cell-held p (simp craw at c.corrected-corrected_cell.ensures) in
-    built a.cell a.linearity a.input raw craw cell
+    built a.cell a.linearity a.input (raw c) (craw c) (rw (craw c, correction-is c) (to_z-of_z w64 _ (sum_fits c.requires)))

@@ -2,15 +2,9 @@
 use mathlib.Core.Path.{◌∙◌, ap₂}
 use mir.Syntax.{w64}
 use mir.ValLaws.{to_z-of_z}
-use Rattle.integers.proofs.Machine.{plain, fits, small, i64s}
+use Rattle.integers.proofs.Machine.{plain, small, i64s}
 use Rattle.compensation.specs.Reading.{scaled}
 use Rattle.compensation.proofs.steps.gained.Goals as goal
-
-pub overflow_sub-elec : goal.overflow_sub-elec
-overflow_sub-elec c = let p = c.requires in fits (search i64s depth 9) tt
-
-pub overflow_sub-elec-2 : goal.overflow_sub-elec-2
-overflow_sub-elec-2 c = let p = c.requires in fits (search i64s depth 9) tt
 
 pub scale-requires : goal.scale-requires
 scale-requires c = let p = c.requires in small (search i64s depth 16) tt

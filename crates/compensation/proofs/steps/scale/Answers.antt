@@ -32,15 +32,6 @@ module _ (s : Start) where
   sum_fits : SFits w64 (product +ℤ pos (2 ^ 27) +ℤ shr_z product (2 ^ 63))
   sum_fits = fits (sum (sum (known s.requires) (literal (2 ^ 27))) (known sign-in)) tt
 
-pub overflow_mul-product : goal.overflow_mul-product
-overflow_mul-product c = let s = (goal.at.overflow_mul-product c).Start in simp (to_z-of_z, s.ranges.x, s.ranges.gain) (product-fits s)
-
-pub overflow_add-result : goal.overflow_add-result
-overflow_add-result c = let s = (goal.at.overflow_add-result c).Start in simp (to_z-of_z, s.ranges.x, s.ranges.gain, product-fits s) (raised-fits s)
-
-pub overflow_add-result-2 : goal.overflow_add-result-2
-overflow_add-result-2 c = let s = (goal.at.overflow_add-result-2 c).Start in simp (to_z-of_z, s.ranges.x, s.ranges.gain, product-fits s, raised-fits s, sign_fits s) (sum_fits s)
-
 pub returns : goal.returns
 unfolding scaled
 returns c =

@@ -2,12 +2,9 @@
 use mathlib.Core.Path.{◌∙◌, ap₂}
 use mir.Syntax.{w64}
 use mir.ValLaws.{to_z-of_z}
-use Rattle.integers.proofs.Machine.{plain, fits, small, i64s}
+use Rattle.integers.proofs.Machine.{plain, small, i64s}
 use Rattle.compensation.specs.Reading.{scaled}
 use Rattle.compensation.proofs.steps.scaled_system.Goals as goal
-
-pub overflow_sub-cell : goal.overflow_sub-cell
-overflow_sub-cell c = let p = c.requires in fits (search i64s depth 9) tt
 
 pub scale-requires : goal.scale-requires
 scale-requires c = let p = c.requires in small (search i64s depth 16) tt

@@ -1,9 +1,10 @@
 -- `values_from` meets its contract: each call gives its part of step 5, and the magnitudes (Magnitudes.antt) meet what the next one
 -- asks. Assumes nothing.
-use mathlib.Core.Path.{◌≡◌, refl}
+use mathlib.Core.Path.{◌≡◌, refl, ◌∙◌, ap}
 use Prim.Native.Nat.{ℕ}
-use lib.IntN.{ℤ}
+use lib.IntN.{ℤ, ◌-ℤ◌}
 use mir.Syntax.{w64}
+use mir.Val.{to_z, of_z}
 use mir.ValLaws.{to_z-of_z}
 use borrow.Author.Rules.{rules}
 use Rattle.integers.proofs.Order.{<-≤}
@@ -13,6 +14,7 @@ use Rattle.figures.specs.declared.System.{System}
 use Rattle.compensation.specs.declared.steps.CellValues.{CellValues}
 use Rattle.compensation.specs.ForCode.{raw_system_from, sraw_from, sys_from, values_from, SystemInput}
 use Rattle.compensation.specs.Stat.{stat_of}
+use Rattle.compensation.proofs.Held.{clamped}
 use Rattle.compensation.proofs.Magnitudes.{Holds, system-magnitudes}
 use Rattle.compensation.proofs.steps.values_from.Goals as goal
 
@@ -36,27 +38,19 @@ built : (c : Cell) (s : System) (v : CellValues) (elec temp : ℤ) (integrity : 
 unfolding values_from
 built c s v elec temp integrity w x y z n = rw (w, x, z, y, n)
 
--- ---- what each call asks
-pub scaled_system-raw_system-requires : goal.scaled_system-raw_system-requires
-scaled_system-raw_system-requires c = rw (cell-held c.requires.system_in) c.requires.system_in
-
-pub net-sys-requires : goal.net-sys-requires
-net-sys-requires c =
-    let p = c.requires.system_in in
-    let a = c.args in
-    let raw = raw-held p (simp (cell-held p) at c.scaled_system-raw_system.ensures) in
-    let sraw = sraw-held p (simp raw at c.hold_system-sraw.ensures) in
-    rw sraw (record { acceptable = p.acceptable; sraw_in = (system-magnitudes a.system a.values.cell p).sraw-within })
-
 pub returns : goal.returns
 returns c =
+    let s = c in
     let p = c.requires.system_in in
-    let a = c.args in
+    let a = s.args in
+    let lo : to_z w64 (of_z w64 s.args.system.smin) ≡ s.args.system.smin = search rules in
+    let hi : to_z w64 (of_z w64 s.args.system.smax) ≡ s.args.system.smax = search rules in
+    let sz : to_z w64 (of_z w64 s.args.system.sz) ≡ s.args.system.sz = search rules in
     let raw = raw-held p (simp (cell-held p) at c.scaled_system-raw_system.ensures) in
-    let sraw = sraw-held p (simp raw at c.hold_system-sraw.ensures) in
-    let sys = sys-held p (simp sraw at c.net-sys.ensures) in
+    let sraw = sraw-held p ((simp (raw, lo, hi) at c.clamp-sraw.ensures.value) ∙ clamped _ _ _ (<-≤ p.acceptable.ordered)) in
+    let sys = sys-held p (ap (λ (z : ℤ). z -ℤ a.system.sz) refl) in
     let raw-is : Holds a.values.raw a.values.raw = search rules in
     let craw_is : Holds a.values.craw a.values.craw = search rules in
-    built a.cell a.system a.values a.elec a.temp a.integrity craw_is (cell-held p) sraw sys
+    built a.cell a.system a.values a.elec a.temp a.integrity craw_is (cell-held p) sraw (rw (sraw, sz) sys)
     ((simp (raw-is, craw_is, to_z-of_z w64 a.elec c.ranges.elec, to_z-of_z w64 a.temp c.ranges.temp, raw, sraw) at c.stat_bits-stat.ensures)
     a.cell a.system (<-≤ c.requires.cell_ok.ordered) (<-≤ p.acceptable.ordered) c.requires.craw_held refl)
