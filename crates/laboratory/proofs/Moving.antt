@@ -15,7 +15,7 @@ use Rattle.sheet.specs.Read.{old_number}
 use Rattle.sheet.specs.Forms.{identity_at, new_number, sheet_number, no_identity, contents_of}
 use Rattle.sheet.specs.BothForms.{InRange}
 use Rattle.sheet.specs.declared.Identity.{Identity}
-use Rattle.sheet.specs.declared.Sheet.{Sheet}
+use Rattle.sheet.specs.Sheet.{Sheet}
 use Rattle.sheet.proofs.Chain.{then-stop}
 use Rattle.sheet.proofs.BothForms.{old-other, old-empty, both-forms}
 use Rattle.sheet.proofs.EitherForm.{in-given}

@@ -18,7 +18,7 @@ use Rattle.sheet.specs.Forms.{serial_most, day_most, identity_at, identity_bytes
 use Rattle.sheet.specs.BothForms.{InRange}
 use Rattle.sheet.specs.declared.Contents.{Contents}
 use Rattle.sheet.specs.declared.Identity.{Identity}
-use Rattle.sheet.specs.declared.Sheet.{Sheet}
+use Rattle.sheet.specs.Sheet.{Sheet}
 use Rattle.sheet.proofs.Chain.{then-none, both}
 use Rattle.sheet.proofs.Numbers.{in-short, in_count, count-wrong}
 use Rattle.sheet.proofs.Judged.{faultless}

@@ -1,6 +1,8 @@
 -- The moves between the two forms of a sheet (02, Change 6): "One call moves an old sheet to the new form with a given identity, another
 -- moves back and gives the old bytes again and the identity beside them."
-use Rattle.std.specs.Prelude.{cond, ◌≡◌, List, ◌++◌, ℕ, ltb, eqb, length, drop}
+use Rattle.std.specs.Prelude.{Result, Ok, Err, cond, ◌≡◌, List, ◌++◌, ℕ, ltb, eqb, length, drop}
+use Rattle.refusal.specs.declared.Refusal.{Refusal}
+use Rattle.refusal.specs.Refusal.{number}
 use Rattle.sheet.specs.Places.{identity_size}
 use Rattle.sheet.specs.Judge.{◌then◌}
 use Rattle.sheet.specs.Read.{old_number}
@@ -55,6 +57,11 @@ moved_of number written = record { number = number; length = cond (eqb number 0)
 
 unfoldable pub moved_back_of : ℕ → List ℕ → MovedBack
 moved_back_of number s = record { number = number; length = cond (eqb number 0) (length (to_old s)) 0; identity = cond (eqb number 0) (identity_at s) no_identity }
+
+-- what C is told of a move back
+abbrev pub told_back : Result (ℕ × Identity) Refusal → MovedBack
+told_back (Ok (n, i)) = record { number = 0; length = n; identity = i }
+told_back (Err refusal) = record { number = number refusal; length = 0; identity = no_identity }
 
 pub record Buffers (number : ℕ) (written out out' scratch scratch' : List ℕ) : Type 0 where
   pub out_is : out' ≡ after number written out

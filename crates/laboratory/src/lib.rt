@@ -11,6 +11,7 @@ pub mod moves;
 
 use figures::Calibration;
 use moves::MovedBack;
+use refusal::number_of;
 use sheet::{Contents, Identity};
 use sheet_writer::Written;
 
@@ -19,7 +20,7 @@ use sheet_writer::Written;
 pub extern "C" fn converter_judge_sheet(sheet: &[u8]) -> u8
     ensures { result ≡ sheet_number sheet.now }
 {
-    sheet::judge_sheet(sheet)
+    number_of(&sheet::judge_sheet(sheet))
 }
 
 // Its figures, its form and its identity, and 0; or the number of its first fault, and zeros.
@@ -27,7 +28,7 @@ pub extern "C" fn converter_judge_sheet(sheet: &[u8]) -> u8
 pub extern "C" fn converter_read_sheet(sheet: &[u8]) -> Contents
     ensures { result ≡ contents_of sheet.now }
 {
-    sheet::read_contents(sheet)
+    Contents::from(sheet::read_contents(sheet))
 }
 
 // Writes figures as an old sheet at the front of `out`: 0 and the bytes written; or 2 to 6, then 12, and `out` is as it was.
@@ -35,7 +36,7 @@ pub extern "C" fn converter_read_sheet(sheet: &[u8]) -> Contents
 pub extern "C" fn converter_write_sheet(figures: Calibration, out: &mut [u8]) -> Written
     ensures { (result ≡ written_of figures out.old) × (out.new ≡ out_after figures out.old) }
 {
-    sheet_writer::write(figures, out)
+    Written::from(sheet_writer::write(figures, out))
 }
 
 // Moves an old sheet to the new form: 0 and the bytes written; or 1 to 7, then 3, then 19, and both buffers are as they were.
@@ -48,7 +49,7 @@ pub extern "C" fn converter_move_to_new(
 ) -> Written
     ensures { MovedToNew sheet.now identity out.old out.new scratch.old scratch.new result }
 {
-    moves::to_new(sheet, identity, out, scratch)
+    Written::from(moves::to_new(sheet, identity, out, scratch))
 }
 
 // Moves a new sheet back: 0, the bytes written and the identity; or 1 to 7, then 19, zeros, and both buffers are as they were.
@@ -60,5 +61,5 @@ pub extern "C" fn converter_move_to_old(
 ) -> MovedBack
     ensures { MovedToOld sheet.now out.old out.new scratch.old scratch.new result }
 {
-    moves::to_old(sheet, out, scratch)
+    MovedBack::from(moves::to_old(sheet, out, scratch))
 }

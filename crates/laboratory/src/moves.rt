@@ -1,16 +1,20 @@
 // The moves between the two forms of a sheet (02, Change 6), over a lent output and a lent scratch buffer.
 ghost use Rattle.std.specs.Prelude.{◌≡◌, ◌+◌, ◌≤◌, length, take};
 ghost use Rattle.integers.specs.Bytes.{Put};
+ghost use Rattle.refusal.specs.Refusal.{number_of};
 ghost use Rattle.sheet.specs.Places.{identity_size};
 ghost use Rattle.sheet.specs.Forms.{identity_bytes};
-ghost use Rattle.laboratory.specs.Moves.{to_new, to_old, put_at_front, copy_of, buffers_number, to_new_number, to_old_number, MovedToNew, MovedToOld};
+ghost use Rattle.sheet_writer.specs.Write.{written};
+ghost use Rattle.laboratory.specs.Moves.{to_new, to_old, put_at_front, copy_of, buffers_number, to_new_number, to_old_number, told_back, MovedToNew, MovedToOld};
 
+use refusal::Refusal;
 use sheet::{Identity, places};
-use sheet_writer::{Written, put_figure};
+use sheet_writer::put_section;
 
 const SCRATCH_LEAST: usize = 342;
 
-// 0, the bytes written and the identity beside them; or the number of the refusal, and zeros.
+// What C is told of a move back: 0, the bytes written and the identity beside them; or the number of the refusal, and zeros.
+// Kept: C reads this record.
 #[repr(C)]
 #[derive(Clone, Copy)]
 pub struct MovedBack {
@@ -19,63 +23,70 @@ pub struct MovedBack {
     pub identity: Identity,
 }
 
-// 19, where the output has no room for what is to be written, or the scratch is too short; or 0.
-fn buffers_number(written: usize, out: usize, scratch: usize) -> u8
-    ensures { result ≡ buffers_number written out scratch }
+impl From<Result<(usize, Identity), Refusal>> for MovedBack {
+    ghost from_gives = { λ outcome told. told ≡ told_back outcome };
+
+    fn from(outcome: Result<(usize, Identity), Refusal>) -> MovedBack {
+        match outcome {
+            Ok((length, identity)) => MovedBack {
+                number: 0,
+                length,
+                identity,
+            },
+            Err(refusal) => MovedBack {
+                number: refusal.number(),
+                length: 0,
+                identity: Identity { serial: 0, day: 0 },
+            },
+        }
+    }
+}
+
+// 19, where the output has no room for what is to be written, or the scratch is too short.
+#[tactic(auto, using(sheet::proofs::Refused::tests), unfolding(crate::specs::Moves::buffers_number))]
+fn judge_buffers(written: usize, out: usize, scratch: usize) -> Result<(), Refusal>
+    ensures { number_of result ≡ buffers_number written out scratch }
 {
-    if out < written {
-        return 19;
+    if out < written || scratch < SCRATCH_LEAST {
+        return Err(Refusal::Buffers);
     }
-    if scratch < SCRATCH_LEAST {
-        return 19;
-    }
-    0
+    Ok(())
 }
 
 // The sheet, then the identity, then the buffers.
-fn to_new_number(sheet: &[u8], identity: Identity, out: usize, scratch: usize) -> u8
-    ensures { result ≡ to_new_number sheet.now identity out scratch }
+#[tactic(auto, using(sheet::proofs::Refused::steps), unfolding(crate::specs::Moves::to_new_number))]
+fn judge_to_new(sheet: &[u8], identity: Identity, out: usize, scratch: usize) -> Result<(), Refusal>
+    ensures { number_of result ≡ to_new_number sheet.now identity out scratch }
 {
-    let old = sheet::judge_old(sheet);
-    if old != 0 {
-        return old;
-    }
-    let given = sheet::judge_identity(identity);
-    if given != 0 {
-        return given;
-    }
-    buffers_number(places::IDENTITY_SIZE + sheet.len(), out, scratch)
+    sheet::judge_old(sheet)?;
+    sheet::judge_identity(identity)?;
+    judge_buffers(places::IDENTITY_SIZE + sheet.len(), out, scratch)
 }
 
 // The sheet, then the buffers.
-fn to_old_number(sheet: &[u8], out: usize, scratch: usize) -> u8
-    ensures { result ≡ to_old_number sheet.now out scratch }
+#[tactic(auto, using(sheet::proofs::Refused::steps), unfolding(crate::specs::Moves::to_old_number))]
+fn judge_to_old(sheet: &[u8], out: usize, scratch: usize) -> Result<(), Refusal>
+    ensures { number_of result ≡ to_old_number sheet.now out scratch }
 {
-    let new = sheet::judge_new(sheet);
-    if new != 0 {
-        return new;
-    }
-    buffers_number(sheet.len() - places::IDENTITY_SIZE, out, scratch)
+    sheet::judge_new(sheet)?;
+    judge_buffers(sheet.len() - places::IDENTITY_SIZE, out, scratch)
 }
 
 fn put_identity(to: &mut [u8], identity: Identity)
     requires { identity_size ≤ length to.old }
     ensures { Put (identity_bytes identity) to.old 0 to.new identity_size }
 {
-    to[0] = 2;
-    put_figure(to, 1, identity.serial);
-    put_figure(to, 9, identity.day);
+    put_section(to, 0, &[identity.serial, identity.day]);
 }
 
 // Copies all of `from` into a buffer from a place on.
+// Kept: the library's copy of a length that only the run knows asks a C link for memmove (docs/DECISIONS.md, 74).
 fn copy(from: &[u8], to: &mut [u8], at: usize)
     requires { at + length from.now ≤ length to.old }
     ensures { Put from.now to.old at to.new (at + length from.now) }
 {
-    let mut i: usize = 0;
-    while i < from.len() {
+    for i in 0..from.len() {
         to[at + i] = from[i];
-        i += 1;
     }
 }
 
@@ -104,40 +115,33 @@ fn keep_copy(out: &[u8], written: usize, scratch: &mut [u8])
     copy(&out[..written], scratch, 0);
 }
 
-// An old sheet to the new form, with a given identity.
-pub fn to_new(sheet: &[u8], identity: Identity, out: &mut [u8], scratch: &mut [u8]) -> Written
-    ensures { MovedToNew sheet.now identity out.old out.new scratch.old scratch.new result }
+// An old sheet to the new form, with a given identity: the bytes written; or a refusal, and both buffers are as they were.
+pub fn to_new(
+    sheet: &[u8],
+    identity: Identity,
+    out: &mut [u8],
+    scratch: &mut [u8],
+) -> Result<usize, Refusal>
+    ensures { MovedToNew sheet.now identity out.old out.new scratch.old scratch.new (written result) }
 {
-    let number = to_new_number(sheet, identity, out.len(), scratch.len());
-    if number != 0 {
-        return Written { number, length: 0 };
-    }
+    judge_to_new(sheet, identity, out.len(), scratch.len())?;
     let length = places::IDENTITY_SIZE + sheet.len();
     put_new(out, identity, sheet);
     keep_copy(out, length, scratch);
-    Written { number: 0, length }
+    Ok(length)
 }
 
-// A new sheet back to the old form, and its identity.
-pub fn to_old(sheet: &[u8], out: &mut [u8], scratch: &mut [u8]) -> MovedBack
-    ensures { MovedToOld sheet.now out.old out.new scratch.old scratch.new result }
+// A new sheet back to the old form: the bytes written, and its identity; or a refusal, likewise.
+pub fn to_old(
+    sheet: &[u8],
+    out: &mut [u8],
+    scratch: &mut [u8],
+) -> Result<(usize, Identity), Refusal>
+    ensures { MovedToOld sheet.now out.old out.new scratch.old scratch.new (told_back result) }
 {
-    let number = to_old_number(sheet, out.len(), scratch.len());
-    if number != 0 {
-        let none = Identity { serial: 0, day: 0 };
-        return MovedBack {
-            number,
-            length: 0,
-            identity: none,
-        };
-    }
+    judge_to_old(sheet, out.len(), scratch.len())?;
     let length = sheet.len() - places::IDENTITY_SIZE;
     put_old(out, sheet);
     keep_copy(out, length, scratch);
-    let identity = sheet::identity_at(sheet);
-    MovedBack {
-        number: 0,
-        length,
-        identity,
-    }
+    Ok((length, sheet::identity_at(sheet)))
 }

@@ -1,5 +1,5 @@
 -- The first fault of several: what a number of 0 says, and what code with early returns gives. Assumes nothing.
-use Rattle.std.proofs.Common.{◌≡◌, ℕ, zero, suc, ◌+◌, ◌-◌, ◌*◌, List, get_or, set, sym, refl, ap, ◌∙◌, add-one, arith}
+use Rattle.std.proofs.Common.{◌≡◌, ℕ, zero, suc, ◌+◌, ◌-◌, ◌*◌, ◌<◌, Bool, true, false, ltb, List, get_or, set, sym, refl, ap, subst, ◌∙◌, add-one, arith, ltb-true, ltb-false}
 use native.Mathlib.Numerals.{unary_clauses}
 use Rattle.sheet.specs.Judge.{◌then◌, points_number, against}
 use Rattle.sheet.specs.Read.{points_at}
@@ -37,6 +37,20 @@ pass {r} {a} {t} {b} e z h = h ∙ ap (λ (k : ℕ). k then b) (sym (sym e ∙ z
 -- one point more
 pub points-next : (number : ℕ → ℕ) (i : ℕ) → points_number number (i + 1) ≡ points_number number i then number i
 points-next number i = rw add-one
+
+-- the first point with a fault
+pub points-fault : (number : ℕ → ℕ) (i n : ℕ) → i < n → points_number number i ≡ 0 → 0 < number i → points_number number n ≡ number i
+points-fault number i zero h z f = absurd (omega arith)
+points-fault number i (suc n) h z f = by (ltb i n) refl (λ k. points-fault number i n k z f)
+  where
+    by : (t : Bool) → ltb i n ≡ t → (i < n → points_number number n ≡ number i) → points_number number (suc n) ≡ number i
+    by true e rest =
+        let p = rest (ltb-true i n e) in
+        then-stop (points_number number n) (number n) (λ k. absurd (omega arith)) ∙ p
+    by false e rest =
+        let j : i ≡ n = omega (arith, ltb-false i n e) in
+        let k : points_number number n ≡ 0 = subst (λ (m : ℕ). points_number number m ≡ 0) j z in
+        rw k (ap number (sym j))
 
 pub against-later : {A : Type 0} (none : A) (number : A → A → ℕ) (points : List A) (i : ℕ) → (i ≡ 0 → ⊥) → against none number points i ≡ number (get_or points (i - 1) none) (get_or points i none)
 against-later none number points zero h = absurd (h refl)

@@ -1,14 +1,19 @@
 -- The two forms of a sheet: what an identity without fault is, and which old sheet is read. Assumes nothing.
-use Rattle.std.proofs.Common.{◌≡◌, ℕ, ◌-◌, ◌≤◌, Bool, true, false, cond, List, length, take, drop, pos, sym, refl, ap, ◌∙◌, subst, arith, length-drop, take_all, ne_eqb}
+use Rattle.std.proofs.Common.{◌≡◌, ℕ, ◌-◌, ◌<◌, ◌≤◌, Some, None, Ok, Err, Bool, true, false, cond, List, length, take, drop, pos, sym, refl, ap, ◌∙◌, subst, arith, length-drop, take_all, ne_eqb, eqb-true}
 use Rattle.sheet.specs.Bytes.{count_at}
+use Rattle.refusal.specs.Refusal.{number}
+use Rattle.refusal.specs.declared.Refusal.{Refusal}
+use Rattle.figures.specs.declared.Calibration.{Calibration}
 use Rattle.sheet.specs.Places.{identity_size}
 use Rattle.sheet.specs.Judge.{short_of, out_of_range, wrong_count, count_number, range_number}
 use Rattle.sheet.specs.Read.{old_number, no_figures, read_old}
-use Rattle.sheet.specs.Forms.{serial_most, day_most, identity_at, identity_number, given_number, own_identity_number, is_new, new_number, sheet_number, old_of, read_sheet, no_identity, contents_of}
+use Rattle.sheet.specs.Forms.{serial_most, day_most, identity_at, identity_number, given_number, own_identity_number, is_new, new_number, sheet_number, old_of, read_sheet, no_identity, contents_of, told}
 use Rattle.sheet.specs.BothForms.{InRange}
 use Rattle.sheet.specs.declared.Identity.{Identity}
-use Rattle.sheet.specs.declared.Sheet.{Sheet}
+use Rattle.sheet.specs.Sheet.{Sheet}
 use Rattle.sheet.proofs.Chain.{then-none, then-stop, both}
+use Rattle.refusal.proofs.Numbers.{number_above}
+use Rattle.sheet.proofs.Judged.{faultless}
 use Rattle.sheet.proofs.Numbers.{short-in, in-short, count-in, in_count, beyond-in, in-beyond}
 
 -- ---- an identity within its ranges
@@ -83,22 +88,35 @@ module _ (s : List ℕ) where
   faulty true e h = sym (reads_none s e h)
   faulty false e h = absurd (h refl)
 
-  pub front-faulty : {front : ℕ} → front ≡ front_of (is_new s) → (front ≡ 0 → ⊥) → record { number = front; figures = no_figures } ≡ read_sheet s
-  front-faulty e h = rw e (faulty (is_new s) refl (λ z. h (e ∙ z)))
+  pub front-faulty : {front : ℕ} → front ≡ front_of (is_new s) → 0 < front → front ≡ (read_sheet s).number
+  front-faulty {front} e h =
+      let all : record { number = front; figures = no_figures } ≡ read_sheet s = rw e (faulty (is_new s) refl (λ z. absurd (omega arith))) in
+      ap (λ (r : Sheet). r.number) all
 
   clear : (new : Bool) → is_new s ≡ new → front_of new ≡ 0 → (cond new identity_size 0 ≤ length s) × (read_old (drop (cond new identity_size 0) s) ≡ read_sheet s)
   clear true e z = ((section-none s z).long, sym (reads-new s e z))
   clear false e z = (omega arith, sym (reads_old s e))
 
-  pub front-clear : {front start : ℕ} → front ≡ front_of (is_new s) → front ≡ 0 → start ≡ cond (is_new s) identity_size 0 → (start ≤ length s) × (read_old (drop start s) ≡ read_sheet s)
-  front-clear e z f = rw f (clear (is_new s) refl (sym e ∙ z))
+  pub front-clear : {start : ℕ} → 0 ≡ front_of (is_new s) → start ≡ cond (is_new s) identity_size 0 → (start ≤ length s) × (read_old (drop start s) ≡ read_sheet s)
+  front-clear e f = rw f (clear (is_new s) refl (sym e))
 
   -- ---- and what is told of it
-
-  pub tells_none : {r : Sheet} → r ≡ read_sheet s → (r.number ≡ 0 → ⊥) → record { number = r.number; form = 0; identity = no_identity; figures = r.figures } ≡ contents_of s
-  unfolding contents_of read_sheet
-  tells_none e h = subst (λ (r : Sheet). (r.number ≡ 0 → ⊥) → record { number = r.number; form = 0; identity = no_identity; figures = r.figures } ≡ contents_of s) (sym e) (λ z. rw (ne_eqb (sheet_number s) 0 z)) h
 
   pub tells : {r : Sheet} (new : Bool) → r ≡ read_sheet s → r.number ≡ 0 → is_new s ≡ new → record { number = 0; form = count_at s 0; identity = cond new (identity_at s) no_identity; figures = r.figures } ≡ contents_of s
   unfolding contents_of read_sheet
   tells {r} new e z k = let n : sheet_number s ≡ 0 = sym (ap (λ (x : Sheet). x.number) e) ∙ z in rw (e, n, k)
+
+  -- as C is told it
+  pub tells_none : (refusal : Refusal) → number refusal ≡ (read_sheet s).number → told (Err refusal) ≡ contents_of s
+  unfolding contents_of read_sheet
+  tells_none refusal e = let z : sheet_number s ≡ 0 → ⊥ = (λ k. absurd (omega (arith, number_above refusal))) in rw (e, ne_eqb (sheet_number s) 0 z)
+
+  pub tells-new : {c : Calibration} {i : Identity} → 0 ≡ (read_sheet s).number → c ≡ (read_sheet s).figures → i ≡ identity_at s → is_new s ≡ true → told (Ok (Some i, c)) ≡ contents_of s
+  unfolding contents_of read_sheet
+  tells-new e f i k = let t : count_at s 0 ≡ 2 = eqb-true (count_at s 0) 2 k in rw (f, i, ← e, k, t)
+
+  pub tells-old : {c : Calibration} → 0 ≡ (read_sheet s).number → c ≡ (read_sheet s).figures → is_new s ≡ false → told (Ok (None, c)) ≡ contents_of s
+  unfolding contents_of read_sheet sheet_number
+  tells-old e f k = let t : count_at s 0 ≡ 4 = (faultless s (subst (λ (b : Bool). cond b (new_number s) (old_number s) ≡ 0) k (sym e))).cell-count in rw (f, ← e, k, t)
+
+pub ruleset told_contents = (tells_none, tells-new, tells-old)

@@ -1,4 +1,5 @@
 pub mod Chain
+pub mod Refused
 pub mod Numbers
 pub mod Whole
 pub mod Sections
@@ -7,6 +8,8 @@ pub mod AcceptableSections
 pub mod AcceptableTables
 pub mod Accepted
 pub mod EightBytes
+pub mod LowFirst
+pub mod Front
 pub mod Points
 pub mod Cut
 pub mod Glue

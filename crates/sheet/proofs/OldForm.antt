@@ -4,7 +4,7 @@ use Rattle.figures.specs.Acceptable.{Acceptable}
 use Rattle.figures.specs.Unused.{no_linearity, no_temperature, unused_zero}
 use Rattle.figures.specs.Representable.{Representable, Fitting}
 use Rattle.figures.specs.declared.Calibration.{Calibration}
-use Rattle.sheet.specs.declared.Sheet.{Sheet}
+use Rattle.sheet.specs.Sheet.{Sheet}
 use Rattle.sheet.specs.Bytes.{Bytes}
 use Rattle.sheet.specs.Places.{linearity_start, sheet_length}
 use Rattle.sheet.specs.Judge.{figures_number}

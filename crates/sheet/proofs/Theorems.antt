@@ -5,7 +5,7 @@ use Rattle.figures.specs.Unused.{unused_zero}
 use Rattle.figures.specs.Representable.{Representable, Fitting}
 use Rattle.figures.specs.declared.Calibration.{Calibration}
 use Rattle.sheet.specs.declared.Identity.{Identity}
-use Rattle.sheet.specs.declared.Sheet.{Sheet}
+use Rattle.sheet.specs.Sheet.{Sheet}
 use Rattle.sheet.specs.Bytes.{count_at, Bytes}
 use Rattle.sheet.specs.Places.{identity_size}
 use Rattle.sheet.specs.Judge.{figures_number}

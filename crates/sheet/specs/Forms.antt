@@ -2,13 +2,16 @@
 -- 65,535 (days after 1 January 2000), both 8-byte figures. A first count of 4 marks the old sheet. Both are read and give the same
 -- device; any other first count is 2, and a figure outside these ranges is 3." Behind the section stands a whole old sheet, its count 4
 -- included, which `Read.antt` judges and reads.
-use Rattle.std.specs.Prelude.{ℕ, Bool, cond, ◌&&◌, List, ◌∷◌, ◌++◌, length, drop, pos, ◌==◌, nat_eq}
+use Rattle.std.specs.Prelude.{ℕ, Bool, Option, Some, None, Result, Ok, Err, cond, ◌&&◌, List, ◌∷◌, ◌++◌, length, drop, pos, ◌==◌, nat_eq}
+use Rattle.refusal.specs.declared.Refusal.{Refusal}
+use Rattle.refusal.specs.Refusal.{number}
+use Rattle.figures.specs.declared.Calibration.{Calibration}
 use Rattle.sheet.specs.Bytes.{count_at, figure_at, figure_bytes}
 use Rattle.sheet.specs.Places.{identity_size}
 use Rattle.sheet.specs.Judge.{◌then◌, never, short_of, count_number, range_number}
 use Rattle.sheet.specs.Read.{figures_of, old_number, no_figures}
 use Rattle.sheet.specs.declared.Identity.{Identity}
-use Rattle.sheet.specs.declared.Sheet.{Sheet}
+use Rattle.sheet.specs.Sheet.{Sheet}
 use Rattle.sheet.specs.declared.Contents.{Contents}
 
 -- ---- the identity
@@ -75,3 +78,9 @@ contents_of s =
       identity = cond (accepted && is_new s) (identity_at s) no_identity;
       figures = (read_sheet s).figures;
     }
+
+-- what C is told of what was read: an identity, if there is one, and figures
+abbrev pub told : Result (Option Identity × Calibration) Refusal → Contents
+told (Ok (None, c)) = record { number = 0; form = 4; identity = no_identity; figures = c }
+told (Ok (Some i, c)) = record { number = 0; form = 2; identity = i; figures = c }
+told (Err refusal) = record { number = number refusal; form = 0; identity = no_identity; figures = no_figures }

@@ -1,6 +1,7 @@
 pub mod Bytes
 pub mod Places
 pub mod Judge
+pub mod Sheet
 pub mod Read
 pub mod Write
 pub mod Forms

@@ -13,7 +13,7 @@ use Rattle.figures.specs.declared.Calibration.{Calibration}
 use Rattle.sheet.specs.Bytes.{count_at, figure_at}
 use Rattle.sheet.specs.Places.{temperature_point_size, linearity_point_size, temperature_start, linearity_start, system_start, filter_start, sheet_end}
 use Rattle.sheet.specs.Judge.{◌then◌, short_of, trailing, sections_number}
-use Rattle.sheet.specs.declared.Sheet.{Sheet}
+use Rattle.sheet.specs.Sheet.{Sheet}
 
 -- ---- the sections, each from its place; figures stand in the order of 01's table
 

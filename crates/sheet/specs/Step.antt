@@ -1,14 +1,32 @@
 -- The sheet cursor (01, "The calibration sheet"): "A sheet cursor refers to the lent sheet itself and knows how far it has got."
 -- A step is told first by slice and offset, as the code takes it, then of the cursor.
-use Rattle.std.specs.Prelude.{◌≡◌, ℕ, ◌+◌, ◌<◌, ◌≤◌, cond, List, length, take, drop, pos, nat_lt}
+use Rattle.std.specs.Prelude.{◌≡◌, ℕ, ◌+◌, ◌<◌, ◌≤◌, cond, List, length, take, drop, ℤ, pos, nat_lt}
 use Rattle.std.specs.Borrow.{Bor}
 use Rattle.integers.specs.Bytes.{word_of, signed_of}
 use Rattle.sheet.specs.Bytes.{count_at, figure_at}
-use Rattle.sheet.specs.declared.CountFound.{CountFound}
-use Rattle.sheet.specs.declared.FigureFound.{FigureFound}
 use Rattle.sheet.specs.declared.Cursor.{Cursor}
-use Rattle.sheet.specs.declared.CountStep.{CountStep}
-use Rattle.sheet.specs.declared.FigureStep.{FigureStep}
+
+-- ---- what a step finds: a number, a value, and the place or the cursor to go on with
+
+pub record CountFound : Type 0 where
+  pub number : ℕ
+  pub value : ℕ
+  pub at : ℕ
+
+pub record FigureFound : Type 0 where
+  pub number : ℕ
+  pub value : ℤ
+  pub at : ℕ
+
+pub record CountStep : Type 0 where
+  pub number : ℕ
+  pub value : ℕ
+  pub next : Cursor
+
+pub record FigureStep : Type 0 where
+  pub number : ℕ
+  pub value : ℤ
+  pub next : Cursor
 
 -- 0, the count and the place after it; or 1, "it ends before a count or figure that is due", and "Beside a refusal each value .. is 0"
 unfoldable pub count_found : List ℕ → ℕ → CountFound

@@ -1,74 +1,26 @@
 // Counts and figures of a sheet: a figure is 8 bytes, two's complement, low byte first.
-ghost use Rattle.std.specs.Prelude.{◌≡◌};
+ghost use Rattle.std.specs.Prelude.{◌≡◌, ◌+◌, ◌<◌, ◌≤◌, MatchOption, length};
 ghost use Rattle.sheet.specs.Bytes.{count_at, figure_at};
-ghost use Rattle.sheet.specs.Step.{count_found, figure_found};
 
-use crate::{CountFound, FigureFound};
-use integers::bytes::{four_to_eight_at, signed};
+// The figure at a place, if the sheet has all its bytes.
+pub fn figure_in(sheet: &[u8], at: usize) -> Option<i64>
+    ensures { MatchOption result (length sheet.now < at + 8) (λ v. (at + 8 ≤ length sheet.now) × (v ≡ figure_at sheet.now at)) }
+{
+    let bytes = sheet.get(at..)?.first_chunk::<8>()?;
+    Some(i64::from_le_bytes(*bytes))
+}
 
 // The count at a place; 0 past the end.
-pub fn count_at(s: &[u8], at: usize) -> u8
-    ensures { result ≡ count_at s.now at }
+pub fn count_at(sheet: &[u8], at: usize) -> u8
+    ensures { result ≡ count_at sheet.now at }
 {
-    if at < s.len() {
-        return s[at];
-    }
-    0
+    sheet.get(at).copied().unwrap_or(0)
 }
 
 // The figure at a place; 0 where the sheet ends before it does.
-pub fn figure_at(s: &[u8], at: usize) -> i64
-    ensures { result ≡ figure_at s.now at }
+#[tactic(auto, using(crate::proofs::Refused::tests), unfolding(crate::specs::Bytes::figure_at))]
+pub fn figure_at(sheet: &[u8], at: usize) -> i64
+    ensures { result ≡ figure_at sheet.now at }
 {
-    if s.len() < 8 {
-        return 0;
-    }
-    if s.len() - 8 < at {
-        return 0;
-    }
-    signed(four_to_eight_at(s, at, 8), 64)
-}
-
-// The count at a place and the place after it; or 1.
-pub fn next_count(s: &[u8], at: usize) -> CountFound
-    ensures { result ≡ count_found s.now at }
-{
-    if s.len() <= at {
-        return CountFound {
-            number: 1,
-            value: 0,
-            at,
-        };
-    }
-    CountFound {
-        number: 0,
-        value: s[at],
-        at: at + 1,
-    }
-}
-
-// The figure at a place and the place after it; or 1.
-pub fn next_figure(s: &[u8], at: usize) -> FigureFound
-    ensures { result ≡ figure_found s.now at }
-{
-    if s.len() < 8 {
-        return FigureFound {
-            number: 1,
-            value: 0,
-            at,
-        };
-    }
-    if s.len() - 8 < at {
-        return FigureFound {
-            number: 1,
-            value: 0,
-            at,
-        };
-    }
-    let value = figure_at(s, at);
-    FigureFound {
-        number: 0,
-        value,
-        at: at + 8,
-    }
+    figure_in(sheet, at).unwrap_or(0)
 }

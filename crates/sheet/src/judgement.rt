@@ -1,287 +1,200 @@
-// How figures are judged (01, "Turned-down calls"), left to right: the number of the first fault, or 0. `room` is how many
-// bytes the sheet has, and `at` is the place where a count, a figure or a section starts.
-ghost use Rattle.std.specs.Prelude.{◌≡◌, ◌+◌, ◌*◌, ◌^◌, ◌<◌, ◌≤◌, ◌-ℤ◌, neg_ℤ, unsigned_abs};
-ghost use Rattle.figures.specs.Unused.{no_linearity, no_temperature};
-ghost use Rattle.sheet.specs.Places.{temperature_point_size, linearity_point_size, sheet_length};
-ghost use Rattle.sheet.specs.Judge.{◌then◌, short_of, not_below, too_steep, points_number, against, count_number, range_number, cell_number, temperature_point_number, temperature_number, linearity_point_number, linearity_number, system_number, filter_number, sections_number, figures_number};
+// How figures are judged (01, "Turned-down calls"), left to right: the first fault counts.
+ghost use Rattle.std.specs.Prelude.{◌≡◌, ◌+◌, ◌*◌, ◌^◌, ◌<◌, ◌≤◌, neg_ℤ, unsigned_abs, length};
+ghost use Rattle.refusal.specs.Refusal.{number, number_of};
+ghost use Rattle.sheet.specs.Places.{sheet_length};
+ghost use Rattle.sheet.specs.Judge.{short_of, not_below, too_steep, points_number, count_number, range_number, cell_number, temperature_number, linearity_number, system_number, filter_number, sections_number, figures_number};
 
 use crate::places;
-use figures::{
-    Calibration, Cell, Filter, Linearity, LinearityPoint, System, Temperature, TemperaturePoint,
-};
-use integers::bytes::unsigned;
+use crate::point::SheetPoint;
+use figures::{Calibration, Cell, Filter, Linearity, LinearityPoint, System, Temperature};
+use refusal::Refusal;
 
-// The first fault counts.
-pub fn first(a: u8, b: u8) -> u8
-    ensures { result ≡ a then b }
-{
-    if a != 0 {
-        return a;
-    }
-    b
+// Where a count, a figure or a section starts, in a sheet of `room` bytes.
+#[derive(Clone, Copy)]
+pub struct Place {
+    pub room: usize,
+    pub at: usize,
 }
 
-pub fn count_number(room: usize, at: usize, least: u8, most: u8, count: u8) -> u8
-    requires { at < 2 ^ 32 }
-    ensures { result ≡ count_number (short_of room) at least most count }
-{
-    if room < at + 1 {
-        return 1;
+impl Place {
+    // So many bytes further on.
+    pub fn after(self, bytes: usize) -> Place
+        requires { self.at + bytes < 2 ^ 64 }
+        ensures { result ≡ record { room = self.room; at = self.at + bytes } }
+    {
+        Place {
+            room: self.room,
+            at: self.at + bytes,
+        }
     }
-    if count < least {
-        return 2;
+
+    // 1 or 3.
+    #[tactic(auto, using(crate::proofs::Refused::steps, crate::proofs::Refused::tests), unfolding(crate::specs::Judge::short_of, crate::specs::Judge::out_of_range))]
+    pub fn range(self, least: i64, most: i64, v: i64) -> Result<(), Refusal>
+        requires { self.at < 2 ^ 32 }
+        ensures { number_of result ≡ range_number (short_of self.room) self.at least most v }
+    {
+        if self.room < self.at + 8 {
+            return Err(Refusal::ShortSheet);
+        }
+        if v < least || most < v {
+            return Err(Refusal::Figure);
+        }
+        Ok(())
     }
-    if most < count {
-        return 2;
+
+    // A figure of magnitude `most` or less.
+    pub fn figure(self, most: i64, v: i64) -> Result<(), Refusal>
+        requires { (self.at < 2 ^ 32) × (unsigned_abs most ≤ 2 ^ 62) }
+        ensures { number_of result ≡ range_number (short_of self.room) self.at (neg_ℤ most) most v }
+    {
+        self.range(-most, most, v)
     }
-    0
+
+    // 1 or 2.
+    #[tactic(auto, using(crate::proofs::Refused::steps, crate::proofs::Refused::tests), unfolding(crate::specs::Judge::short_of, crate::specs::Judge::wrong_count))]
+    pub fn count(self, least: u8, most: u8, count: u8) -> Result<(), Refusal>
+        requires { self.at < 2 ^ 32 }
+        ensures { number_of result ≡ count_number (short_of self.room) self.at least most count }
+    {
+        if self.room < self.at + 1 {
+            return Err(Refusal::ShortSheet);
+        }
+        if count < least || most < count {
+            return Err(Refusal::WrongCount);
+        }
+        Ok(())
+    }
 }
 
-pub fn range_number(room: usize, at: usize, least: i64, most: i64, v: i64) -> u8
-    requires { at < 2 ^ 32 }
-    ensures { result ≡ range_number (short_of room) at least most v }
+#[tactic(auto, using(crate::proofs::Refused::tests), unfolding(crate::specs::Judge::not_below))]
+pub fn below(a: i64, b: i64, otherwise: Refusal) -> Result<(), Refusal>
+    ensures { number_of result ≡ not_below (number otherwise) a b }
 {
-    if room < at + 8 {
-        return 1;
-    }
-    if v < least {
-        return 3;
-    }
-    if most < v {
-        return 3;
-    }
-    0
-}
-
-// A figure of magnitude `most` or less.
-fn figure_number(room: usize, at: usize, most: i64, v: i64) -> u8
-    requires { (at < 2 ^ 32) × (unsigned_abs most ≤ 2 ^ 62) }
-    ensures { result ≡ range_number (short_of room) at (neg_ℤ most) most v }
-{
-    range_number(room, at, -most, most, v)
-}
-
-fn not_below(number: u8, a: i64, b: i64) -> u8
-    ensures { result ≡ not_below number a b }
-{
-    if a < b {
-        return 0;
-    }
-    number
-}
-
-// How far apart two figures are, whatever they are: the words differ by as much, modulo 2^64.
-fn change(a: i64, b: i64) -> u64
-    ensures { result ≡ unsigned_abs (b -ℤ a) }
-{
-    let from = unsigned(a);
-    let to = unsigned(b);
-    if a < b {
-        return std::num::wrapping_sub_u64(to, from);
-    }
-    std::num::wrapping_sub_u64(from, to)
+    if a < b { Ok(()) } else { Err(otherwise) }
 }
 
 // 4 × the change of CLK against the change of CLX, by a quarter of the latter, so that no product overflows.
-fn too_steep(p: LinearityPoint, q: LinearityPoint) -> u8
-    ensures { result ≡ too_steep p q }
+#[tactic(auto, using(crate::proofs::Refused::tests), unfolding(crate::specs::Judge::too_steep))]
+pub fn gentle(p: LinearityPoint, q: LinearityPoint) -> Result<(), Refusal>
+    ensures { number_of result ≡ too_steep p q }
 {
-    let clx = change(p.clx, q.clx);
-    let clk = change(p.clk, q.clk);
+    let clx = q.clx.abs_diff(p.clx);
+    let clk = q.clk.abs_diff(p.clk);
     if clx / 4 < clk {
-        return 5;
+        return Err(Refusal::TooSteep);
     }
-    0
+    Ok(())
 }
 
-fn cell_number(room: usize, at: usize, count: u8, cell: Cell) -> u8
-    requires { at < 2 ^ 31 }
-    ensures { result ≡ cell_number (short_of room) at count cell }
+// Every point of a table; the counts and the places around them are each table's own.
+fn judge_points<P: SheetPoint>(place: Place, points: &[P]) -> Result<(), Refusal>
+    requires { (place.at < 2 ^ 30) × (length points.now < 2 ^ 8) }
+    ensures { number_of result ≡ points_number (λ i. P.point_number (short_of place.room) (place.at + P.SIZE * i) points.now i) (length points.now) }
 {
-    let counted = count_number(room, at, 4, 4, count);
-    let cofs = figure_number(room, at + 1, Calibration::COFS_MOST, cell.cofs);
-    let cgai = figure_number(room, at + 9, Calibration::CGAI_MOST, cell.cgai);
-    let cmin = figure_number(room, at + 17, Calibration::CMIN_CMAX_MOST, cell.cmin);
-    let cmax = figure_number(room, at + 25, Calibration::CMIN_CMAX_MOST, cell.cmax);
-    let crossed = not_below(6, cell.cmin, cell.cmax);
-    first(
-        counted,
-        first(cofs, first(cgai, first(cmin, first(cmax, crossed)))),
-    )
-}
-
-// 4 for point `i`, if CT is not above the one before.
-fn temperature_rise(points: [TemperaturePoint; 5], i: usize) -> u8
-    requires { i < 5 }
-    ensures { result ≡ against no_temperature (λ p q. not_below 4 p.ct q.ct) points i }
-{
-    if i == 0 {
-        return 0;
+    for i in 0..points.len() {
+        P::judge(points, i, place.after(P::SIZE * i))?;
     }
-    let p = points[i - 1];
-    let q = points[i];
-    not_below(4, p.ct, q.ct)
+    Ok(())
 }
 
-fn temperature_point_number(room: usize, at: usize, points: [TemperaturePoint; 5], i: usize) -> u8
-    requires { (at < 2 ^ 31) × (i < 5) }
-    ensures { result ≡ temperature_point_number (short_of room) at points i }
+#[tactic(auto, using(crate::proofs::Refused::steps), unfolding(crate::specs::Judge::cell_number))]
+fn judge_cell(place: Place, count: u8, cell: Cell) -> Result<(), Refusal>
+    requires { place.at < 2 ^ 31 }
+    ensures { number_of result ≡ cell_number (short_of place.room) place.at count cell }
 {
-    let point = points[i];
-    let ct = figure_number(room, at, Calibration::CT_MOST, point.ct);
-    let rise = temperature_rise(points, i);
-    let cto = figure_number(room, at + 8, Calibration::CTO_MOST, point.cto);
-    let ctg = figure_number(room, at + 16, Calibration::CTG_MOST, point.ctg);
-    first(ct, first(rise, first(cto, ctg)))
+    place.count(4, 4, count)?;
+    place.after(1).figure(Calibration::COFS_MOST, cell.cofs)?;
+    place.after(9).figure(Calibration::CGAI_MOST, cell.cgai)?;
+    place
+        .after(17)
+        .figure(Calibration::CMIN_CMAX_MOST, cell.cmin)?;
+    place
+        .after(25)
+        .figure(Calibration::CMIN_CMAX_MOST, cell.cmax)?;
+    below(cell.cmin, cell.cmax, Refusal::Crossed)
 }
 
-fn temperature_points_number(room: usize, at: usize, points: [TemperaturePoint; 5], n: usize) -> u8
-    requires { (at < 2 ^ 30) × (n ≤ 5) }
-    ensures { result ≡ points_number (λ i. temperature_point_number (short_of room) (at + temperature_point_size * i) points i) n }
-{
-    let mut number: u8 = 0;
-    let mut i: usize = 0;
-    while i < n {
-        let point = temperature_point_number(
-            room,
-            at + places::TEMPERATURE_POINT_SIZE * i,
-            points,
-            i,
-        );
-        number = first(number, point);
-        i += 1;
-    }
-    number
-}
-
-fn temperature_number(room: usize, at: usize, temperature: Temperature) -> u8
-    requires { at < 2 ^ 29 }
-    ensures { result ≡ temperature_number (short_of room) at temperature }
+// Kept, with its twin below and those that read and write: Temperature and Linearity are C's records, their arrays of fixed sizes,
+// and no array has a type parameter for its elements.
+#[tactic(auto, using(crate::proofs::Refused::steps), unfolding(crate::specs::Judge::temperature_number))]
+fn judge_temperature(place: Place, temperature: Temperature) -> Result<(), Refusal>
+    requires { place.at < 2 ^ 29 }
+    ensures { number_of result ≡ temperature_number (short_of place.room) place.at temperature }
 {
     let ctn = temperature.ctn;
-    let counted = count_number(room, at, 2, 5, ctn);
-    if counted != 0 {
-        return counted;
-    }
-    let points = temperature.points;
-    temperature_points_number(room, at + 1, points, ctn as usize)
+    place.count(2, 5, ctn)?;
+    judge_points(place.after(1), &temperature.points[..ctn as usize])
 }
 
-// 4 for point `i`, if CLX is not above the one before.
-fn linearity_rise(points: [LinearityPoint; 7], i: usize) -> u8
-    requires { i < 7 }
-    ensures { result ≡ against no_linearity (λ p q. not_below 4 p.clx q.clx) points i }
-{
-    if i == 0 {
-        return 0;
-    }
-    let p = points[i - 1];
-    let q = points[i];
-    not_below(4, p.clx, q.clx)
-}
-
-// 5 for point `i`, if CLK changes too much from the one before.
-fn linearity_steep(points: [LinearityPoint; 7], i: usize) -> u8
-    requires { i < 7 }
-    ensures { result ≡ against no_linearity too_steep points i }
-{
-    if i == 0 {
-        return 0;
-    }
-    let p = points[i - 1];
-    let q = points[i];
-    too_steep(p, q)
-}
-
-fn linearity_point_number(room: usize, at: usize, points: [LinearityPoint; 7], i: usize) -> u8
-    requires { (at < 2 ^ 31) × (i < 7) }
-    ensures { result ≡ linearity_point_number (short_of room) at points i }
-{
-    let point = points[i];
-    let clx = figure_number(room, at, Calibration::CLX_MOST, point.clx);
-    let rise = linearity_rise(points, i);
-    let clk = figure_number(room, at + 8, Calibration::CLK_MOST, point.clk);
-    let steep = linearity_steep(points, i);
-    first(clx, first(rise, first(clk, steep)))
-}
-
-fn linearity_points_number(room: usize, at: usize, points: [LinearityPoint; 7], n: usize) -> u8
-    requires { (at < 2 ^ 30) × (n ≤ 7) }
-    ensures { result ≡ points_number (λ i. linearity_point_number (short_of room) (at + linearity_point_size * i) points i) n }
-{
-    let mut number: u8 = 0;
-    let mut i: usize = 0;
-    while i < n {
-        let point = linearity_point_number(room, at + places::LINEARITY_POINT_SIZE * i, points, i);
-        number = first(number, point);
-        i += 1;
-    }
-    number
-}
-
-fn linearity_number(room: usize, at: usize, linearity: Linearity) -> u8
-    requires { at < 2 ^ 29 }
-    ensures { result ≡ linearity_number (short_of room) at linearity }
+#[tactic(auto, using(crate::proofs::Refused::steps), unfolding(crate::specs::Judge::linearity_number))]
+fn judge_linearity(place: Place, linearity: Linearity) -> Result<(), Refusal>
+    requires { place.at < 2 ^ 29 }
+    ensures { number_of result ≡ linearity_number (short_of place.room) place.at linearity }
 {
     let cln = linearity.cln;
-    let counted = count_number(room, at, 2, 7, cln);
-    if counted != 0 {
-        return counted;
-    }
-    let points = linearity.points;
-    linearity_points_number(room, at + 1, points, cln as usize)
+    place.count(2, 7, cln)?;
+    judge_points(place.after(1), &linearity.points[..cln as usize])
 }
 
-fn system_number(room: usize, at: usize, count: u8, system: System) -> u8
-    requires { at < 2 ^ 31 }
-    ensures { result ≡ system_number (short_of room) at count system }
+#[tactic(auto, using(crate::proofs::Refused::steps), unfolding(crate::specs::Judge::system_number))]
+fn judge_system(place: Place, count: u8, system: System) -> Result<(), Refusal>
+    requires { place.at < 2 ^ 31 }
+    ensures { number_of result ≡ system_number (short_of place.room) place.at count system }
 {
-    let counted = count_number(room, at, 5, 5, count);
-    let sofs = figure_number(room, at + 1, Calibration::SOFS_MOST, system.sofs);
-    let sgai = figure_number(room, at + 9, Calibration::SGAI_MOST, system.sgai);
-    let smin = figure_number(room, at + 17, Calibration::SMIN_SMAX_MOST, system.smin);
-    let smax = figure_number(room, at + 25, Calibration::SMIN_SMAX_MOST, system.smax);
-    let crossed = not_below(6, system.smin, system.smax);
-    let sz = figure_number(room, at + 33, Calibration::SZ_MOST, system.sz);
-    first(
-        counted,
-        first(
-            sofs,
-            first(sgai, first(smin, first(smax, first(crossed, sz)))),
-        ),
-    )
+    place.count(5, 5, count)?;
+    place.after(1).figure(Calibration::SOFS_MOST, system.sofs)?;
+    place.after(9).figure(Calibration::SGAI_MOST, system.sgai)?;
+    place
+        .after(17)
+        .figure(Calibration::SMIN_SMAX_MOST, system.smin)?;
+    place
+        .after(25)
+        .figure(Calibration::SMIN_SMAX_MOST, system.smax)?;
+    below(system.smin, system.smax, Refusal::Crossed)?;
+    place.after(33).figure(Calibration::SZ_MOST, system.sz)
 }
 
-fn filter_number(room: usize, at: usize, count: u8, filter: Filter) -> u8
-    requires { at < 2 ^ 31 }
-    ensures { result ≡ filter_number (short_of room) at count filter }
+#[tactic(auto, using(crate::proofs::Refused::steps), unfolding(crate::specs::Judge::filter_number))]
+fn judge_filter(place: Place, count: u8, filter: Filter) -> Result<(), Refusal>
+    requires { place.at < 2 ^ 31 }
+    ensures { number_of result ≡ filter_number (short_of place.room) place.at count filter }
 {
-    let counted = count_number(room, at, 2, 2, count);
-    let fflv = range_number(room, at + 1, 0, Calibration::FFLV_MOST, filter.fflv);
-    let ffst = range_number(room, at + 9, 0, Calibration::FFST_MOST, filter.ffst);
-    first(counted, first(fflv, ffst))
+    place.count(2, 2, count)?;
+    place
+        .after(1)
+        .range(0, Calibration::FFLV_MOST, filter.fflv)?;
+    place.after(9).range(0, Calibration::FFST_MOST, filter.ffst)
 }
 
-// All five sections; `cell`, `system` and `filter` are the counts that stand before these three.
-pub fn sections_number(room: usize, cell: u8, system: u8, filter: u8, figures: Calibration) -> u8
-    ensures { result ≡ sections_number (short_of room) cell system filter figures }
+// The counts that stand before cell, system and filter.
+#[derive(Clone, Copy)]
+pub struct Counts {
+    pub cell: u8,
+    pub system: u8,
+    pub filter: u8,
+}
+
+// All five sections, in a sheet of so many bytes.
+#[tactic(auto, using(crate::proofs::Refused::steps), unfolding(crate::specs::Judge::sections_number))]
+pub fn judge_sections(room: usize, counts: Counts, figures: Calibration) -> Result<(), Refusal>
+    ensures { number_of result ≡ sections_number (short_of room) counts.cell counts.system counts.filter figures }
 {
     let ctn = figures.temperature.ctn;
     let cln = figures.linearity.cln;
-    let linearity_at = places::linearity_start(ctn);
-    let system_at = places::system_start(ctn, cln);
-    let in_cell = cell_number(room, 0, cell, figures.cell);
-    let in_temperature = temperature_number(room, places::TEMPERATURE_START, figures.temperature);
-    let in_linearity = linearity_number(room, linearity_at, figures.linearity);
-    let in_system = system_number(room, system_at, system, figures.system);
-    let filter_at = places::filter_start(ctn, cln);
-    let in_filter = filter_number(room, filter_at, filter, figures.filter);
-    first(
-        in_cell,
-        first(
-            in_temperature,
-            first(in_linearity, first(in_system, in_filter)),
-        ),
+    let place = Place { room, at: 0 };
+    judge_cell(place, counts.cell, figures.cell)?;
+    judge_temperature(place.after(places::TEMPERATURE_START), figures.temperature)?;
+    judge_linearity(place.after(places::linearity_start(ctn)), figures.linearity)?;
+    judge_system(
+        place.after(places::system_start(ctn, cln)),
+        counts.system,
+        figures.system,
+    )?;
+    judge_filter(
+        place.after(places::filter_start(ctn, cln)),
+        counts.filter,
+        figures.filter,
     )
 }
 
@@ -292,9 +205,14 @@ pub fn sheet_length(figures: Calibration) -> usize
     places::sheet_end(figures.temperature.ctn, figures.linearity.cln)
 }
 
-// Figures by themselves, 2 to 6 in sheet order, or 0: as in a sheet with room for all of them.
-pub fn judge(figures: Calibration) -> u8
-    ensures { result ≡ figures_number figures }
+// Figures by themselves, 2 to 6 in sheet order: as in a sheet with room for all of them.
+pub fn judge(figures: Calibration) -> Result<(), Refusal>
+    ensures { number_of result ≡ figures_number figures }
 {
-    sections_number(sheet_length(figures), 4, 5, 2, figures)
+    let counts = Counts {
+        cell: 4,
+        system: 5,
+        filter: 2,
+    };
+    judge_sections(sheet_length(figures), counts, figures)
 }

@@ -1,14 +1,15 @@
--- The eight bytes of the figure's word. Assumes nothing.
-use Rattle.integers.specs.Bytes.{word_bytes}
-use Rattle.integers.proofs.Puts.{reads}
+-- The eight bytes of a figure. Assumes nothing.
+use Rattle.std.proofs.Common.{◌≡◌, ◌+◌, ◌-◌, length, ◌∙◌, arith, rules, w64, to_z, of_z}
+use Rattle.sheet.proofs.EightBytes.{figure-length}
+use Rattle.sheet.proofs.LowFirst.{figure_written}
 use Rattle.sheet.specs.Bytes.{figure_bytes}
-use mathlib.Core.Path.{ap}
-use mir.Facts.{to_z-of_z}
+use Rattle.sheet_writer.proofs.Pieces.{part}
 use Rattle.sheet_writer.proofs.put_figure.Goals as goal
 
 pub returns : goal.returns
-unfolding figure_bytes
 returns c =
-    let s = c in
-    let v = simp (to_z-of_z, s.ranges.v) at c.unsigned-word.ensures in
-    reads (ap (word_bytes 8) v) c.put_word.ensures
+    let a = c.args in
+    let v : to_z w64 (of_z w64 a.v) ≡ a.v = search rules in
+    let written : c.copy_from_slice.new.self ≡ figure_bytes a.v = c.copy_from_slice.ensures.after ∙ (rw v at c.to_le_bytes.ensures) ∙ figure_written a.v c.ranges.v in
+    let eight = figure-length a.v in
+    rw (written, ← eight) (part (figure_bytes a.v) a.out.now a.at (a.at + length (figure_bytes a.v) - a.at) (omega arith) (omega arith))

@@ -1,12 +1,16 @@
--- One piece behind the other. Assumes nothing.
+-- linearityhe count, then the points. Assumes nothing.
+use Rattle.std.proofs.Common.{◌≡◌, length, take, arith, rules, length-take-le}
+use Rattle.figures.specs.Unused.{no_linearity}
 use Rattle.integers.proofs.Puts.{◌then◌}
-use Rattle.sheet_writer.proofs.Pieces.{store}
-use Rattle.sheet.specs.Write.{linearity_bytes}
-use native.Mathlib.Omega.{arith}
+use Rattle.sheet.specs.Write.{linearity_bytes, linearity_point_bytes}
+use Rattle.sheet_writer.proofs.Pieces.{store, points-front}
 use Rattle.sheet_writer.proofs.put_linearity.Goals as goal
 
 pub returns : goal.returns
 unfolding linearity_bytes
 returns c =
-    let s = c in
-    store s.args.out.now s.args.at s.args.linearity.cln (omega arith) then c.put_linearity_points.ensures
+    let n = c.args.linearity.cln in
+    let points = c.args.linearity.points in
+    let all : length points ≡ 7 = search rules in
+    let l : length (take n points) ≡ n = length-take-le n points (omega arith) in
+    store c.args.out.now c.args.at n (omega arith) then (rw (l, points-front no_linearity linearity_point_bytes points n n (omega arith)) at c.put_points.ensures)

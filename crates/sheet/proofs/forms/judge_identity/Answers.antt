@@ -6,4 +6,4 @@ use Rattle.sheet.proofs.EitherForm.{whole-identity}
 use Rattle.sheet.proofs.forms.judge_identity.Goals as goal
 
 pub returns : goal.returns
-returns c = c.identity_number.ensures ∙ whole-identity (short_of 17) c.args.identity (in-short (omega arith)) (in-short (omega arith)) (in-short (omega arith))
+returns c = c.judge_section.ensures ∙ whole-identity (short_of 17) c.args.identity (in-short (omega arith)) (in-short (omega arith)) (in-short (omega arith))

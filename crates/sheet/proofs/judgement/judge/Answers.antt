@@ -10,4 +10,4 @@ pub returns : goal.returns
 unfolding figures_number
 returns c =
     let f = c.args.figures in
-    (rw c.sheet_length.ensures.0 at c.sections_number.ensures) ∙ sections-whole (short_of (sheet_length f)) 4 5 2 f (λ e h. in-short h)
+    (rw c.sheet_length.ensures.0 at c.judge_sections.ensures) ∙ sections-whole (short_of (sheet_length f)) 4 5 2 f (λ e h. in-short h)

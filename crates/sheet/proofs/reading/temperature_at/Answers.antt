@@ -1,7 +1,21 @@
--- The count, and as many points as the array has. Assumes nothing.
-use Rattle.sheet.specs.Read.{temperature_at}
+-- temperaturehe count, and as many points as the array has. Assumes nothing.
+use Rattle.std.proofs.Common.{◌≡◌, ◌+◌, ◌≤◌, arith, rules}
+use Rattle.figures.specs.Unused.{no_temperature}
+use Rattle.sheet.specs.Read.{temperature_at, temperature_point_at}
+use Rattle.sheet.proofs.Front.{front-unused, table-read}
 use Rattle.sheet.proofs.reading.temperature_at.Goals as goal
+
+pub read_points-requires : goal.read_points-requires
+read_points-requires c =
+    let u : c.unused-points.result ≡ no_temperature = search rules in
+    let n : c.min-n.result ≤ 5 = omega arith in
+    let f = front-unused no_temperature temperature_point_at 24 c.args.sheet.now (c.args.at + 1) 5 c.min-n.result n in
+    rw u (omega arith, omega (arith, f.0), f.1)
 
 pub returns : goal.returns
 unfolding temperature_at
-returns c = rw (c.temperature_points_at-points.ensures, c.at_most.ensures, c.count_at-ctn.ensures)
+returns c =
+    let u : c.unused-points.result ≡ no_temperature = search rules in
+    let n : c.min-n.result ≤ 5 = omega arith in
+    let p = table-read no_temperature temperature_point_at 24 c.args.sheet.now (c.args.at + 1) 5 c.min-n.result n (rw u at c.read_points.ensures) in
+    rw (u, p, c.min-n.ensures, c.count_at-ctn.ensures)
