@@ -13,8 +13,7 @@ use Rattle.binary32.specs.Wire.{wire_bytes, sent}
 use Rattle.binary32.proofs.Returned.{sent-received}
 use Rattle.register.specs.declared.Access.{Access}
 use Rattle.register.specs.declared.Access.TheVariants.{Unlisted, ReadOnly, Takes, Action}
-use Rattle.modbus.specs.declared.frame.Frame.{Frame}
-use Rattle.modbus.specs.declared.frame.Frame.TheVariants.{Read, Write, Act, Refused}
+use Rattle.modbus.specs.Judgement.{Frame, Read, Write, Act, Refused}
 use Rattle.checksum.specs.Checksum.{framed}
 use Rattle.register.specs.Register.{access_of, range_in, range_of}
 use Rattle.register.specs.Ends.{kind_of}

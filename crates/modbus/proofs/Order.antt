@@ -11,8 +11,7 @@ use lib.ListN.{length}
 use Rattle.binary32.specs.Received.{takes}
 use Rattle.register.specs.declared.Access.{Access}
 use Rattle.register.specs.declared.Access.TheVariants.{Unlisted, ReadOnly, Takes, Action}
-use Rattle.modbus.specs.declared.frame.Frame.{Frame}
-use Rattle.modbus.specs.declared.frame.Frame.TheVariants.{Refused, Read}
+use Rattle.modbus.specs.Judgement.{Frame, Refused, Read}
 use Rattle.register.specs.Register.{access_of}
 use Rattle.modbus.specs.Frame.{function_of, register_of, quantity_of, byte_count_of, value_of, for_us, access_asked, read_of, read_asked, write_of, write_asked, judged}
 use Rattle.modbus.specs.Order.{Heard, Formed, Addresses, Verdict, no_room, not_for_us, no_function, not_formed, no_address, only_read, unfit, reads, writes, acts, OrderHolds}

@@ -1,5 +1,4 @@
--- What the three replies have in common: bytes that are put and ended are the reply; and where nothing is replied the buffer is as
--- it was. Assumes nothing.
+-- What the three replies have in common: bytes that are put and ended are the reply. Assumes nothing.
 use mathlib.Core.Path.{◌≡◌, refl, sym, ap, ap₂, ◌∙◌, subst}
 use mathlib.Core.Bool.{Bool, true, false, cond, ◌||◌, true≢false}
 use mathlib.Core.List.{List, [], ◌∷◌, ◌++◌}
@@ -19,6 +18,11 @@ use Rattle.modbus.specs.Frame.{station_of, function_of}
 use Rattle.integers.proofs.Puts.{size}
 use Rattle.modbus.specs.Reply.{silent, unless_silent, value_reply, write_reply, exception_code, exception_reply, Replied}
 
+-- What the replies compute with: to unfold this is to unfold all that its line names.
+unfoldable pub replies : Unit {0}
+unfolding silent unless_silent write_reply exception_reply
+replies = tt
+
 -- ---- what a test of silence tells
 
 or_no : (a b : Bool) → (a || b) ≡ false → (a ≡ false) × (b ≡ false)
@@ -32,9 +36,6 @@ module _ (s : List ℕ) (room : ℕ) (h : silent s room ≡ false) where
 
   pub enough : 9 ≤ room
   enough = ltb-false room 9 unsilenced.0
-
-  pub framed-enough : 4 ≤ length s
-  framed-enough = ltb-false (length s) 4 unsilenced.1
 
 -- ---- the checksum's two bytes
 
@@ -58,10 +59,6 @@ module _ (s b l : List ℕ) where
       ap₂ (λ (k : ℕ) (m : List ℕ). drop (k + 2) m) len all ∙ drop-append-add l (drop n b) 2 ∙ drop-drop 2 n b in
       subst (λ (t : Bool). Replied (cond t [] (framed l)) b after r) (sym h)
       (record { count = ended.0 ∙ total; buffer = ended.1 ∙ ap₂ (λ (m k : List ℕ). framed m ++ k) text (rest ∙ ap (λ (k : ℕ). drop k b) total) })
-
-  pub unreplied : silent s (length b) ≡ true → Replied (unless_silent s (length b) l) b b 0
-  unfolding unless_silent
-  unreplied h = subst (λ (t : Bool). Replied (cond t [] (framed l)) b b 0) (sym h) (record { count = refl; buffer = refl })
 
 -- ---- a reply fits the buffer: it has at most 9 bytes, and there is none with less room
 

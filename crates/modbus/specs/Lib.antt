@@ -1,3 +1,4 @@
+pub mod Judgement
 pub mod Frame
 pub mod Order
 pub mod Master

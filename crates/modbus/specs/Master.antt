@@ -5,7 +5,7 @@ use Rattle.std.specs.Float.{binary32}
 use Rattle.std.specs.Float.Ieee.{fits}
 use Rattle.binary32.specs.Received.{takes}
 use Rattle.binary32.specs.Wire.{sent}
-use Rattle.modbus.specs.declared.frame.Frame.TheVariants.{Refused, Read, Write, Act}
+use Rattle.modbus.specs.Judgement.{Refused, Read, Write, Act}
 use Rattle.checksum.specs.Checksum.{framed}
 use Rattle.register.specs.Register.{range_of}
 use Rattle.register.specs.Listed.{kind_said, acting, valued, only_read, not_listed}

@@ -4,8 +4,7 @@ use Rattle.std.specs.Prelude.{◌≡◌, ◌⊎◌, ◌↔◌, true, false, List
 use Rattle.binary32.specs.Received.{takes}
 use Rattle.binary32.specs.declared.received.Range.{Range}
 use Rattle.register.specs.declared.Access.TheVariants.{Unlisted, ReadOnly, Takes, Action}
-use Rattle.modbus.specs.declared.frame.Frame.{Frame}
-use Rattle.modbus.specs.declared.frame.Frame.TheVariants.{Refused, Read, Write, Act}
+use Rattle.modbus.specs.Judgement.{Frame, Refused, Read, Write, Act}
 use Rattle.checksum.specs.Checksum.{checksum_of}
 use Rattle.register.specs.Register.{access_of}
 use Rattle.modbus.specs.Frame.{word_at, station_of, function_of, quantity_of, byte_count_of, value_of, to_us, for_us, judged}

@@ -1,7 +1,10 @@
 pub mod Among
+pub mod Figures
 pub mod Columns
 pub mod Numbered
 pub mod Places
 pub mod Listed
 pub mod Placed
 pub mod Unused
+pub mod Filled
+pub mod Written

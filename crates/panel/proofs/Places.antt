@@ -84,14 +84,6 @@ module _ (n : ℕ) (z : ℤ) where
       up (pos m) h = refl
       up (negsuc m) h = absurd h.le
 
-  -- it fits its byte
-  pub count_fits : (k v : ℕ) → (n ≡ k → (pos 0 ≤ℤ z) × (z ≤ℤ pos 255)) → v < 256 → {w : ℤ} → w ≡ put n z k (pos v) → T (non_neg w) × Fits w8 (nat_abs w)
-  count_fits k v h l e = rw e (pick (eqb k n) z (pos v) (λ u. T (non_neg u) × Fits w8 (nat_abs u)) (λ g. small z (h (sym (eqb-true k n g)))) (λ g. (tt, record { fits = l })))
-    where
-      small : (z : ℤ) → (pos 0 ≤ℤ z) × (z ≤ℤ pos 255) → T (non_neg z) × Fits w8 (nat_abs z)
-      small (pos m) h = (tt, record { fits = omega (arith, le? (nat m) (nat 255) h.1) })
-      small (negsuc m) h = absurd h.0.le
-
   back : (a m : ℕ) → a ≤ m → a + (0 + (m - a)) ≡ m
   back a m h = omega arith
 
@@ -142,6 +134,11 @@ module _ (n : ℕ) (z : ℤ) where
       same : (b : Bool) → cond b (figure_at c m) (figure_at c m) ≡ figure_at c m
       same true = refl
       same false = refl
+
+-- a count that is a byte fits it
+pub byte-fits : (z : ℤ) → (pos 0 ≤ℤ z) × (z ≤ℤ pos 255) → T (non_neg z) × Fits w8 (nat_abs z)
+byte-fits (pos m) h = (tt, record { fits = omega (arith, le? (nat m) (nat 255) h.1) })
+byte-fits (negsuc m) h = absurd h.0.le
 
 -- ---- what is written of a float
 

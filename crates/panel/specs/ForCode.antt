@@ -1,5 +1,5 @@
 -- For the code alone, and nothing to be believed: what its functions may be handed, and `used` of `figures/specs/Unused.antt` in pieces.
-use Rattle.std.specs.Prelude.{◌≡◌, cond, ℕ, ltb, ℤ, pos, nat_abs, ◌≤ℤ◌}
+use Rattle.std.specs.Prelude.{◌≡◌, ℕ, ℤ, pos, nat_abs, ◌≤ℤ◌}
 use Rattle.integers.specs.Within.{◌within◌}
 use Rattle.figures.specs.Unused.{no_temperature, no_linearity, used}
 use Rattle.figures.specs.declared.Temperature.{Temperature}
@@ -18,11 +18,7 @@ pub record Counts (n : ℕ) (z : ℤ) : Type 0 where
 abbrev pub InRange : Calibration → Type 0
 InRange c = (n : ℕ) → (figure_at c n) within (nat_abs (range_of n).most)
 
--- a point by its index
-abbrev pub used_at : {A : Type 0} → A → ℕ → ℕ → A → A
-used_at none count i p = cond (ltb i count) p none
-
--- and table by table
+-- table by table
 abbrev pub temperature_used : Temperature → Temperature
 temperature_used t = record { ctn = t.ctn; points = used no_temperature t.ctn t.points }
 

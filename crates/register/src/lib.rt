@@ -123,16 +123,14 @@ fn whole(least: i64, most: i64) -> Access
 }
 
 // What a frame may do with a register, and the range of what it takes: "its range in 01's sheet table" (Change 1).
+#[tactic(auto, unfolding(crate::specs::Register::access_of))]
 pub fn access_to(register: u32) -> Access
     ensures { result ≡ access_of register }
 {
     match register {
-        STAT => Access::ReadOnly,
-        SOUT..=CELL => Access::ReadOnly,
+        STAT | SOUT..=CELL | CRAW..=ELEC | SYSN..=TROF => Access::ReadOnly,
         FLAG => whole(0, 65_535),
-        CRAW..=ELEC => Access::ReadOnly,
         SZ => symmetric(STEPS, Calibration::SZ_MOST),
-        SYSN..=TROF => Access::ReadOnly,
         CGAI => symmetric(PARTS, Calibration::CGAI_MOST),
         COFS => symmetric(STEPS, Calibration::COFS_MOST),
         CMIN..=CMAX => symmetric(STEPS, Calibration::CMIN_CMAX_MOST),
@@ -148,8 +146,7 @@ pub fn access_to(register: u32) -> Access
             most: Calibration::FFLV_MOST,
         }),
         FFST => whole(0, Calibration::FFST_MOST),
-        APPLY..=RST => Access::Action,
-        SNAP..=PEAK_RESET => Access::Action,
+        APPLY..=RST | SNAP..=PEAK_RESET => Access::Action,
         CTN => whole(2, 5),
         CT..=CT_LAST => symmetric(STEPS, Calibration::CT_MOST),
         CTG..=CTG_LAST => symmetric(PARTS, Calibration::CTG_MOST),
@@ -159,11 +156,13 @@ pub fn access_to(register: u32) -> Access
 }
 
 // What a write to a register takes; of one that takes none it is never used.
+// Kept: no Option. The definition gives each number a range, of which two wrong programs are refused (range_none,
+// range_in_parts).
+#[tactic(auto, unfolding(crate::specs::Register::range_of))]
 pub fn range_of(register: u32) -> Range
     ensures { result ≡ range_of register }
 {
-    let access = access_to(register);
-    match access {
+    match access_to(register) {
         Access::Takes(range) => range,
         _ => Range {
             shift: 16,
@@ -174,23 +173,24 @@ pub fn range_of(register: u32) -> Range
 }
 
 // Is a register listed? (A read asks no more, and takes no range along.)
+// Kept: a table of its own. By `access_to` a read takes 38 instructions more (docs/DECISIONS.md, 40).
+#[tactic(auto, unfolding(crate::specs::Register::access_of))]
 pub fn is_listed(register: u32) -> bool
     ensures { result ≡ listed (access_of register) }
 {
-    match register {
-        STAT
-        | SOUT..=ELEC
-        | SZ..=TROF
-        | CGAI..=COFS
-        | CMIN..=CMAX
-        | CLN..=CLX_LAST
-        | CLK..=CLK_LAST
-        | SGAI..=SOFS
-        | SMIN..=SMAX
-        | FFLV..=FFST
-        | APPLY..=RST
-        | SNAP..=PEAK_RESET
-        | CTN..=CTO_LAST => true,
-        _ => false,
-    }
+    matches!(
+        register,
+        STAT | SOUT..=ELEC
+            | SZ..=TROF
+            | CGAI..=COFS
+            | CMIN..=CMAX
+            | CLN..=CLX_LAST
+            | CLK..=CLK_LAST
+            | SGAI..=SOFS
+            | SMIN..=SMAX
+            | FFLV..=FFST
+            | APPLY..=RST
+            | SNAP..=PEAK_RESET
+            | CTN..=CTO_LAST
+    )
 }

@@ -5,12 +5,18 @@ ghost use Rattle.std.specs.Float.Ieee.{of_bits};
 ghost use Rattle.binary32.specs.Sent.{step_float, count_float};
 ghost use Rattle.binary32.specs.Wire.{received};
 
-// Four bytes come in as the expected float; compared are the patterns of the two.
+// A float is the expected one; compared are the patterns of the two.
+fn is(x: f32, expected: f32)
+    requires { x ≡ expected }
+{
+    check::expect(binary32::wire::bits_of_float(x) == binary32::wire::bits_of_float(expected));
+}
+
+// Four bytes come in as the expected float.
 fn comes_in(a: u8, b: u8, c: u8, d: u8, expected: f32)
     requires { received a b c d ≡ expected }
 {
-    let pattern = binary32::wire::bits_of_float(binary32::wire::float_of_bytes(a, b, c, d));
-    check::expect(pattern == binary32::wire::bits_of_float(expected));
+    is(binary32::wire::float_of_bytes(a, b, c, d), expected);
 }
 
 #[tactic(auto, unfolding(crate::proofs::Cases::floats))]
@@ -28,22 +34,17 @@ pub(crate) fn of_001() {
 pub(crate) fn float_of(bits: u32) -> f32
     ensures { result ≡ of_bits binary32 bits }
 {
-    binary32::wire::float_of_bytes(
-        (bits / 256 % 256) as u8,
-        (bits % 256) as u8,
-        (bits / 16777216) as u8,
-        (bits / 65536 % 256) as u8,
-    )
+    let [c, d, a, b] = bits.to_be_bytes();
+    binary32::wire::float_of_bytes(a, b, c, d)
 }
 
-// A step count goes out as the float of a pattern; compared are the patterns of the two. The range is said as a test, which the
-// prover computes as it does the rest of a case.
+// A step count goes out as the float of a pattern. The range is said as a test, which the prover computes as it does the rest of a
+// case.
 fn goes_out(z: i64, bits: u32)
     requires z_value { leb (nat_abs z) 4194304000 ≡ true }
     requires z_value_2 { step_float z ≡ of_bits binary32 bits }
 {
-    let pattern = binary32::wire::bits_of_float(binary32::sent::float_of_steps(z));
-    check::expect(pattern == binary32::wire::bits_of_float(float_of(bits)));
+    is(binary32::sent::float_of_steps(z), float_of(bits));
 }
 
 #[tactic(auto, unfolding(crate::proofs::Cases::floats))]
@@ -69,8 +70,7 @@ fn part_goes_out(z: i64, bits: u32)
     requires z_value { leb (nat_abs z) 17179869184 ≡ true }
     requires z_value_2 { count_float 28 z ≡ of_bits binary32 bits }
 {
-    let pattern = binary32::wire::bits_of_float(binary32::sent::float_of_parts(z));
-    check::expect(pattern == binary32::wire::bits_of_float(float_of(bits)));
+    is(binary32::sent::float_of_parts(z), float_of(bits));
 }
 
 #[tactic(auto, unfolding(crate::proofs::Cases::floats))]

@@ -4,13 +4,13 @@ use mathlib.Core.Bool.{Bool, cond}
 use mathlib.Core.List.{List, [], ◌∷◌}
 use Prim.Native.Nat.{ℕ, zero, suc, ◌+◌, ◌≤◌}
 use native.Mathlib.Omega.{arith}
-use borrow.Author.Tests.{eq-eqb, ne_eqb}
+use borrow.Author.Tests.{eq-eqb}
 use lib.ListN.{length, take, drop}
 use lib.Seq.{drop-cons}
 use Rattle.integers.specs.Bytes.{byte_at, Put}
-use Rattle.integers.proofs.Puts.{size, reads}
+use Rattle.integers.proofs.Puts.{reads}
 use Rattle.modbus.specs.Reply.{unless_silent, write_reply, Replied}
-use Rattle.modbus.proofs.Replies.{enough, replied, unreplied}
+use Rattle.modbus.proofs.Replies.{replied}
 use Rattle.modbus.proofs.reply.acknowledgement.Goals as goal
 
 whole : (s b : List ℕ) {after : List ℕ} {n : ℕ} → length s ≡ 13 → Replied (unless_silent s (length b) (take 6 s)) b after n → Replied (write_reply s (length b)) b after n
@@ -28,21 +28,6 @@ each-is (suc k) s i h = ap (λ (t : List ℕ). byte_at s i ∷ t) (each-is k s (
 
 filled : (s : List ℕ) {before after : List ℕ} → length s ≡ 13 → Put (each 6 s 0) before 0 after 6 → Put (take 6 s) before 0 after 6
 filled s h p = reads (each-is 6 s 0 (omega arith)) p
-
-pub returns-then-frame-ne13 : goal.returns-then-frame-ne13
-unfolding write_reply
-returns-then-frame-ne13 c = simp (ne_eqb _ _ c.if-frame-ne13.true) (record { count = refl; buffer = refl })
-
-pub returns-then-is_silent : goal.returns-then-is_silent
-returns-then-is_silent c =
-    let s = c.args.frame.now in
-    whole s c.args.reply.now c.if-frame-ne13.false (unreplied s c.args.reply.now (take 6 s) (sym c.is_silent.ensures ∙ c.if-is_silent.true))
-
-pub put_six-requires : goal.put_six-requires
-put_six-requires c = omega (arith, enough _ _ (sym c.is_silent.ensures ∙ c.if-is_silent.false))
-
-pub end-requires : goal.end-requires
-end-requires c = omega (arith, enough _ _ (sym c.is_silent.ensures ∙ c.if-is_silent.false), size (filled c.args.frame.now c.if-frame-ne13.false c.put_six.ensures))
 
 pub returns : goal.returns
 returns c =
