@@ -6,12 +6,11 @@ use native.Mathlib.Omega.{arith}
 use borrow.Author.Tests.{eqb-true, ne_eqb}
 use lib.Dec.{eqb}
 use Rattle.register.specs.Number.{APPLY, RST}
-use Rattle.modbus.specs.declared.frame.Frame.{Frame}
-use Rattle.modbus.specs.declared.frame.Frame.TheVariants as frame
-use Rattle.modbus.specs.declared.frame.Frame.TheVariants.{Read, Write, Act}
+use Rattle.modbus.specs.Judgement as frame
+use Rattle.modbus.specs.Judgement.{Frame, Read, Write, Act}
 use Rattle.in_force.specs.declared.Setup.{Setup}
 use Rattle.state.specs.declared.State.{State}
-use Rattle.answers.specs.declared.Answer.TheVariants.{Done, Refused}
+use Rattle.answers.specs.Answer.{Done, Refused}
 use Rattle.in_force.specs.InForce.{copy_fits}
 use Rattle.answers.specs.Register.{on_reading, on_copy, answer_of}
 use Rattle.answers.specs.Parts.{is_read, applies, is_obeyed, obeys, refusal_of}

@@ -13,9 +13,9 @@ use Rattle.answers.specs.Register.{steps_at}
 abbrev Small : ℤ → Type 0
 Small z = z within value_most
 
-pub steps-within : (r : Readings) (n : ℕ) → ReadingsWithin r → (steps_at r n) within value_most
+pub steps_within : (r : Readings) (n : ℕ) → ReadingsWithin r → (steps_at r n) within value_most
 unfolding steps_at
-steps-within r n h =
+steps_within r n h =
     pick (eqb n SOUT) _ _ Small (λ e. h.sys_in)
     (λ e. pick (eqb n SYS) _ _ Small (λ e. h.sys_in)
     (λ e. pick (eqb n TEMP) _ _ Small (λ e. h.temp_in)

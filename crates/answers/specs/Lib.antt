@@ -1,3 +1,4 @@
+pub mod Answer
 pub mod Register
 pub mod Parts
 pub mod Within

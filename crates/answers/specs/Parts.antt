@@ -1,10 +1,9 @@
--- A frame by tests, for a record that is kept in place: a read, one that is obeyed, or any other; and which part of the record it can
--- change. Only code needs these: `proofs/Answers.antt` and `proofs/Stored.antt` tell what they say of `answer_of`, `setup_by` and `state_by`.
+-- A frame by tests: a read, one that is obeyed, or any other; and which part of a device it can change. No contract rests on these:
+-- `proofs/Answers.antt` and `proofs/Stored.antt` tell what they say of `answer_of`, `setup_by` and `state_by`.
 use Rattle.std.specs.Prelude.{Bool, true, false, cond, not, ◌||◌, ℕ, eqb, ℤ}
 use Rattle.figures.specs.declared.Calibration.{Calibration}
 use Rattle.register.specs.Number.{FLAG, SZ, APPLY, RST}
-use Rattle.modbus.specs.declared.frame.Frame.{Frame}
-use Rattle.modbus.specs.declared.frame.Frame.TheVariants.{Refused, Read, Write, Act}
+use Rattle.modbus.specs.Judgement.{Frame, Refused, Read, Write, Act}
 use Rattle.panel.specs.Figure.{is_figure, written}
 use Rattle.state.specs.declared.Readings.{Readings}
 use Rattle.in_force.specs.declared.Setup.{Setup}

@@ -2,17 +2,16 @@
 use Rattle.std.specs.Prelude.{cond, ℕ, eqb, leb, ℤ, pos, Float}
 use Rattle.binary32.specs.Sent.{step_float, whole_float}
 use Rattle.register.specs.Number.{STAT, SOUT, SYS, TEMP, SRAW, CELL, FLAG, CRAW, ELEC, SZ, SYSN, PEAK, TROF, CGAI, APPLY, RST}
-use Rattle.modbus.specs.declared.frame.Frame.{Frame}
-use Rattle.modbus.specs.declared.frame.Frame.TheVariants as frame
-use Rattle.modbus.specs.declared.frame.Frame.TheVariants.{Read, Write, Act}
+use Rattle.modbus.specs.Judgement as frame
+use Rattle.modbus.specs.Judgement.{Frame, Read, Write, Act}
 use Rattle.figures.specs.declared.Calibration.{Calibration}
 use Rattle.panel.specs.Figure.{is_figure, figure_float}
 use Rattle.in_force.specs.InForce.{copy_fits}
 use Rattle.in_force.specs.declared.Setup.{Setup}
 use Rattle.state.specs.declared.Readings.{Readings}
 use Rattle.state.specs.declared.State.{State}
-use Rattle.answers.specs.declared.Answer.{Answer}
-use Rattle.answers.specs.declared.Answer.TheVariants.{Value, Done, Refused}
+use Rattle.answers.specs.Answer.{Answer}
+use Rattle.answers.specs.Answer.{Value, Done, Refused}
 
 -- "SOUT 9 and SYS 10 (equal), TEMP 11, SRAW 12, CELL 13, .. CRAW 15, ELEC 16, .. PEAK 24, TROF 25": those of a reading that
 -- count in steps, and no other

@@ -18,8 +18,7 @@ use Rattle.binary32.specs.Sent.{count_float}
 use Rattle.register.specs.Listed.{is_in}
 use Rattle.register.specs.Number.{SZ, APPLY, RST}
 use Rattle.register.specs.Register.{access_of, range_of}
-use Rattle.modbus.specs.declared.frame.Frame.{Frame}
-use Rattle.modbus.specs.declared.frame.Frame.TheVariants.{Refused, Read, Write, Act}
+use Rattle.modbus.specs.Judgement.{Frame, Refused, Read, Write, Act}
 use Rattle.panel.specs.Figure.{system_figure, figure_at, is_figure, figure_float, written}
 use Rattle.panel.specs.Placed.{numbers}
 use Rattle.panel.proofs.Placed.{placed}

@@ -6,8 +6,7 @@ use Rattle.sheet.specs.Judge.{figures_number}
 use Rattle.binary32.specs.Received.{counted}
 use Rattle.register.specs.Number.{SZ, APPLY, RST}
 use Rattle.register.specs.Register.{range_of}
-use Rattle.modbus.specs.declared.frame.Frame.{Frame}
-use Rattle.modbus.specs.declared.frame.Frame.TheVariants.{Refused, Read, Write, Act}
+use Rattle.modbus.specs.Judgement.{Frame, Refused, Read, Write, Act}
 use Rattle.panel.specs.Figure.{is_figure, written}
 use Rattle.in_force.specs.declared.Setup.{Setup}
 

@@ -8,8 +8,7 @@ use Rattle.binary32.specs.Received.{counted}
 use Rattle.binary32.specs.Sent.{count_float}
 use Rattle.register.specs.Listed.{from, is_in}
 use Rattle.register.specs.Register.{range_of}
-use Rattle.modbus.specs.declared.frame.Frame.{Frame}
-use Rattle.modbus.specs.declared.frame.Frame.TheVariants.{Refused, Read, Write, Act}
+use Rattle.modbus.specs.Judgement.{Frame, Refused, Read, Write, Act}
 use Rattle.panel.specs.Figure.{figure_at, figure_float}
 use Rattle.panel.specs.Placed.{numbers}
 use Rattle.in_force.specs.declared.Setup.{Setup}

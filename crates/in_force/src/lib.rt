@@ -2,10 +2,12 @@
 #![tactic(auto)]
 
 ghost use Rattle.std.specs.Prelude.{◌≡◌};
-ghost use Rattle.in_force.specs.InForce.{zero_steps, offered, accepted, copy_fits, applied, setup_written, setup_acted, setup_by};
+ghost use Rattle.register.specs.Number.{APPLY, RST};
+ghost use Rattle.in_force.specs.InForce.{zero_steps, offered, setup_written, setup_acted};
+ghost use Rattle.in_force.specs.Fits.{fits};
 
 use figures::Calibration;
-use modbus::frame::Frame;
+use refusal::Refusal;
 
 // The figures in force, SZ as last written among them; the waiting copy, whose own SZ is not looked at; and the station.
 #[repr(C)]
@@ -17,98 +19,70 @@ pub struct Setup {
 }
 
 // The steps that are written to SZ.
-pub fn zero_steps(x: f32) -> i64
+fn zero_steps(x: f32) -> i64
     ensures { result ≡ zero_steps x }
 {
-    let range = register::range_of(register::SZ);
-    binary32::received::count(range, x)
+    binary32::received::count(register::range_of(register::SZ), x)
 }
 
-// The copy as it would be in force beside an SZ: with no points past the count.
-pub fn offer(sz: i64, copy: Calibration) -> Calibration
-    ensures { result ≡ offered sz copy }
+// Part by part, since the compiler asks a board for memcpy to assign them as one (include/converter.h names memset alone).
+fn put(to: &mut Calibration, figures: &Calibration)
+    ensures { to.new ≡ figures.now }
 {
-    let mut next = panel::unused_zero(copy);
-    let mut system = next.system;
-    system.sz = sz;
-    next.system = system;
-    next
+    to.cell = figures.cell;
+    to.temperature = figures.temperature;
+    to.linearity = figures.linearity;
+    to.system = figures.system;
+    to.filter = figures.filter;
 }
 
-fn offered_by(setup: Setup) -> Calibration
-    ensures { result ≡ offered setup.figures.system.sz setup.copy }
-{
-    let figures = setup.figures;
-    let system = figures.system;
-    offer(system.sz, setup.copy)
-}
-
-// Would a sheet with these figures be accepted?
-pub fn is_accepted(figures: Calibration) -> bool
-    ensures { result ≡ accepted figures }
-{
-    sheet::judge(figures) == 0
-}
-
-pub fn copy_fits(setup: Setup) -> bool
-    ensures { result ≡ copy_fits setup }
-{
-    is_accepted(offered_by(setup))
-}
-
-// 99: the copy is put in force, where it fits.
-fn apply(setup: Setup) -> Setup
-    ensures { result ≡ applied setup }
-{
-    let mut next = setup;
-    if copy_fits(setup) {
-        let figures = offered_by(setup);
-        next.figures = figures;
+impl Setup {
+    // The copy as it would be in force: with no points past the count, beside the SZ in force.
+    pub fn offered(&self) -> Calibration
+        ensures { result ≡ offered self.now.figures.system.sz self.now.copy }
+    {
+        let mut figures = Calibration {
+            cell: self.copy.cell,
+            temperature: self.copy.temperature,
+            linearity: self.copy.linearity,
+            system: self.copy.system,
+            filter: self.copy.filter,
+        };
+        panel::unused_zero(&mut figures);
+        figures.system.sz = self.figures.system.sz;
+        figures
     }
-    next
-}
 
-// SZ is in force at once; any other figure goes to the copy.
-fn write(setup: Setup, register: u32, x: f32) -> Setup
-    ensures { result ≡ setup_written setup register x }
-{
-    let mut next = setup;
-    if register == register::SZ {
-        let mut figures = setup.figures;
-        let mut system = figures.system;
-        system.sz = zero_steps(x);
-        figures.system = system;
-        next.figures = figures;
-        return next;
+    // 99: the copy is put in force, if a sheet with its figures would be accepted.
+    #[tactic(auto, using(refusal::proofs::Numbers::number_above), unfolding(crate::specs::InForce::copy_fits, crate::specs::InForce::applied, crate::specs::InForce::setup_acted))]
+    pub fn apply(&mut self) -> Result<(), Refusal>
+        ensures outcome { result ≡ fits self.old }
+        ensures setup { self.new ≡ setup_acted self.old APPLY }
+    {
+        let figures = self.offered();
+        sheet::judge(figures).map_err(|_| Refusal::UnfitCopy)?;
+        put(&mut self.figures, &figures);
+        Ok(())
     }
-    if panel::is_figure(register) {
-        let copy = panel::write(setup.copy, register, x);
-        next.copy = copy;
-    }
-    next
-}
 
-// 99, and RST, which sets the copy back.
-fn act(setup: Setup, register: u32) -> Setup
-    ensures { result ≡ setup_acted setup register }
-{
-    if register == register::APPLY {
-        return apply(setup);
+    // RST: the copy is set back to the figures in force.
+    #[tactic(auto, unfolding(crate::specs::InForce::setup_acted))]
+    pub fn restart(&mut self)
+        ensures { self.new ≡ setup_acted self.old RST }
+    {
+        put(&mut self.copy, &self.figures);
+        panel::unused_zero(&mut self.copy);
     }
-    let mut next = setup;
-    if register == register::RST {
-        let copy = panel::unused_zero(setup.figures);
-        next.copy = copy;
-    }
-    next
-}
 
-pub fn setup_by(setup: Setup, frame: Frame) -> Setup
-    ensures { result ≡ setup_by setup frame }
-{
-    match frame {
-        Frame::Write(register, x) => write(setup, register, x),
-        Frame::Act(register) => act(setup, register),
-        _ => setup,
+    // SZ is in force at once; any other figure goes to the copy.
+    #[tactic(auto, unfolding(crate::specs::InForce::setup_written))]
+    pub fn write(&mut self, register: u32, x: f32)
+        ensures { self.new ≡ setup_written self.old register x }
+    {
+        if register == register::SZ {
+            self.figures.system.sz = zero_steps(x);
+        } else if panel::is_figure(register) {
+            panel::write(&mut self.copy, register, x);
+        }
     }
 }

@@ -1,3 +1,3 @@
-pub mod Within
 pub mod Remembered
 pub mod BadReading
+pub mod Extremes

@@ -4,3 +4,4 @@ pub mod Request
 pub mod Report
 pub mod Within
 pub mod ForCode
+pub mod Known

@@ -6,8 +6,7 @@ use Rattle.compensation.specs.declared.steps.Values.{Values}
 use Rattle.binary32.specs.Received.{counted}
 use Rattle.register.specs.Number.{FLAG, RST, SNAP, PEAKRESET}
 use Rattle.register.specs.Register.{range_of}
-use Rattle.modbus.specs.declared.frame.Frame.{Frame}
-use Rattle.modbus.specs.declared.frame.Frame.TheVariants.{Refused, Read, Write, Act}
+use Rattle.modbus.specs.Judgement.{Frame, Refused, Read, Write, Act}
 use Rattle.state.specs.declared.Readings.{Readings}
 use Rattle.state.specs.declared.Snapshot.{Snapshot}
 use Rattle.state.specs.declared.State.{State}

@@ -3,7 +3,7 @@ ghost use Rattle.std.specs.Prelude.{◌≡◌};
 ghost use Rattle.compensation.specs.Filter.{held_by};
 ghost use Rattle.compensation.specs.ForCode.{FilterInput};
 ghost use Rattle.state.specs.ForCode.{remembering};
-ghost use Rattle.state.specs.Reading.{outside, bad_reading, larger, smaller, peak_after, trof_after, readings_after, remembered_of, state_after_values};
+ghost use Rattle.state.specs.Reading.{outside, bad_reading, peak_after, trof_after, readings_after, remembered_of, state_after_values};
 
 use crate::{Readings, State};
 use compensation::Values;
@@ -18,106 +18,81 @@ const TEMP_MOST: i64 = 13_107_200;
 
 const TEMP_LEAST: i64 = -TEMP_MOST;
 
+#[tactic(auto, unfolding(crate::specs::Reading::outside))]
 fn is_outside(least: i64, most: i64, v: i64) -> bool
     ensures { result ≡ outside least most v }
 {
-    if v < least {
-        return true;
-    }
-    most < v
+    v < least || most < v
 }
 
 // Number 9.
+#[tactic(auto, unfolding(crate::specs::Reading::bad_reading))]
 pub fn bad_reading(elec: i64, temp: i64, integrity: u8) -> bool
     ensures { result ≡ bad_reading elec temp integrity }
 {
-    if is_outside(ELEC_LEAST, ELEC_MOST, elec) {
-        return true;
-    }
-    if is_outside(TEMP_LEAST, TEMP_MOST, temp) {
-        return true;
-    }
-    1 < integrity
+    is_outside(ELEC_LEAST, ELEC_MOST, elec)
+        || is_outside(TEMP_LEAST, TEMP_MOST, temp)
+        || 1 < integrity
 }
 
-fn larger_of(a: i64, b: i64) -> i64
-    ensures { result ≡ larger a b }
-{
-    if a < b {
-        return b;
+impl Readings {
+    // Kept: these two are alike but for `max` and `min`; one function with a closure would be no plainer.
+    #[tactic(auto, unfolding(crate::specs::Reading::peak_after))]
+    fn peak_after(&self, values: Values) -> i64
+        ensures { result ≡ peak_after self.now values }
+    {
+        if self.any {
+            self.peak.max(values.sys)
+        } else {
+            values.sys
+        }
     }
-    a
-}
 
-fn smaller_of(a: i64, b: i64) -> i64
-    ensures { result ≡ smaller a b }
-{
-    if b < a {
-        return b;
+    #[tactic(auto, unfolding(crate::specs::Reading::smaller, crate::specs::Reading::trof_after))]
+    fn trof_after(&self, values: Values) -> i64
+        ensures { result ≡ trof_after self.now values }
+    {
+        if self.any {
+            self.trof.min(values.sys)
+        } else {
+            values.sys
+        }
     }
-    a
-}
 
-fn peak_after(r: Readings, v: Values) -> i64
-    ensures { result ≡ peak_after r v }
-{
-    if r.any {
-        return larger_of(r.peak, v.sys);
+    // Step 1 of a reading that is not a bad one, after these: the held value.
+    pub fn held_after(&self, filter: Filter, input: i64) -> i64
+        requires { FilterInput filter self.now.input self.now.elec input }
+        ensures { result ≡ held_by filter (remembered_of self.now) input }
+    {
+        compensation::filter_input(filter, !self.any, self.input, self.elec, input)
     }
-    v.sys
-}
 
-fn trof_after(r: Readings, v: Values) -> i64
-    ensures { result ≡ trof_after r v }
-{
-    if r.any {
-        return smaller_of(r.trof, v.sys);
-    }
-    v.sys
-}
-
-fn join(r: Readings, elec: i64, temp: i64, v: Values) -> Readings
-    ensures { result ≡ readings_after r (record { input = r.input; held = elec }) temp v }
-{
-    let peak = peak_after(r, v);
-    let trof = trof_after(r, v);
-    Readings {
-        any: true,
-        input: r.input,
-        elec,
-        temp,
-        values: v,
-        peak,
-        trof,
+    fn join(&mut self, elec: i64, temp: i64, values: Values)
+        ensures { self.new ≡ readings_after self.old (record { input = self.old.input; held = elec }) temp values }
+    {
+        self.peak = self.peak_after(values);
+        self.trof = self.trof_after(values);
+        self.any = true;
+        self.elec = elec;
+        self.temp = temp;
+        self.values = values;
     }
 }
 
-// Step 1 of a reading that is not a bad one, after the readings before it: the held value.
-pub fn held_after(filter: Filter, before: Readings, input: i64) -> i64
-    requires { FilterInput filter before.input before.elec input }
-    ensures { result ≡ held_by filter (remembered_of before) input }
-{
-    compensation::filter_input(filter, !before.any, before.input, before.elec, input)
-}
+impl State {
+    // The input of a reading, before its values are known.
+    pub fn remember(&mut self, input: i64)
+        ensures { self.new ≡ remembering self.old input }
+    {
+        self.readings.input = input;
+    }
 
-// The input of a reading, before its values are known.
-pub fn remember(state: State, input: i64) -> State
-    ensures { result ≡ remembering state input }
-{
-    let mut readings = state.readings;
-    readings.input = input;
-    let mut next = state;
-    next.readings = readings;
-    next
-}
-
-// What a reading makes of the state that remembers its input, by the held value, TEMP and its values.
-pub fn take(state: State, elec: i64, temp: i64, values: Values) -> State
-    ensures { result ≡ state_after_values state (record { input = state.readings.input; held = elec }) temp values }
-{
-    let readings = join(state.readings, elec, temp, values);
-    let mut next = state;
-    next.readings = readings;
-    next.flag = state.flag | values.stat;
-    next
+    // A reading whose input is remembered, by the held value, TEMP and its values.
+    #[tactic(auto, unfolding(crate::specs::Reading::state_after_values))]
+    pub fn take(&mut self, elec: i64, temp: i64, values: Values)
+        ensures { self.new ≡ state_after_values self.old (record { input = self.old.readings.input; held = elec }) temp values }
+    {
+        self.readings.join(elec, temp, values);
+        self.flag |= values.stat;
+    }
 }

@@ -1,13 +1,14 @@
 // The report (01, "The reading").
 ghost use Rattle.std.specs.Prelude.{◌≡◌};
 ghost use Rattle.state.specs.Within.{ReadingsWithin};
-ghost use Rattle.state.specs.Report.{floats_of, report_of};
+ghost use Rattle.state.specs.Report.{report_of, reported};
 
 use crate::Readings;
 use binary32::sent::float_of_steps;
+use refusal::Refusal;
 
 #[repr(C)]
-#[derive(Clone, Copy)]
+#[derive(Clone, Copy, Default)]
 pub struct Report {
     pub sys: f32,
     pub peak: f32,
@@ -15,6 +16,8 @@ pub struct Report {
     pub cell: f32,
 }
 
+// A report as C is given it: 0 beside it, or the number of the refusal, and zeros.
+// Kept: C has no Result.
 #[repr(C)]
 #[derive(Clone, Copy)]
 pub struct Reported {
@@ -22,37 +25,30 @@ pub struct Reported {
     pub report: Report,
 }
 
-fn floats_of(r: Readings) -> Report
-    requires { ReadingsWithin r }
-    ensures { result ≡ floats_of r }
-{
-    let v = r.values;
-    let sys = float_of_steps(v.sys);
-    let peak = float_of_steps(r.peak);
-    let trof = float_of_steps(r.trof);
-    let cell = float_of_steps(v.cell);
-    Report {
-        sys,
-        peak,
-        trof,
-        cell,
+impl Readings {
+    // SYS, PEAK, TROF and CELL; not before the first reading.
+    #[tactic(auto, unfolding(crate::specs::Report::report_of))]
+    pub fn report(&self) -> Result<Report, Refusal>
+        requires { ReadingsWithin self.now }
+        ensures { reported result ≡ report_of self.now }
+    {
+        self.known()?;
+        Ok(Report {
+            sys: float_of_steps(self.values.sys),
+            peak: float_of_steps(self.peak),
+            trof: float_of_steps(self.trof),
+            cell: float_of_steps(self.values.cell),
+        })
     }
 }
 
-// SYS, PEAK, TROF and CELL, and 0; before the first reading 10, and zeros.
-pub fn report_of(r: Readings) -> Reported
-    requires { ReadingsWithin r }
-    ensures { result ≡ report_of r }
-{
-    if r.any {
-        let report = floats_of(r);
-        return Reported { number: 0, report };
+impl From<Result<Report, Refusal>> for Reported {
+    ghost from_gives = { λ outcome made. made ≡ reported outcome };
+
+    fn from(outcome: Result<Report, Refusal>) -> Reported {
+        Reported {
+            number: refusal::number_of(&outcome),
+            report: outcome.unwrap_or_default(),
+        }
     }
-    let report = Report {
-        sys: 0.0,
-        peak: 0.0,
-        trof: 0.0,
-        cell: 0.0,
-    };
-    Reported { number: 10, report }
 }

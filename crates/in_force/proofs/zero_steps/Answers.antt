@@ -12,7 +12,7 @@ of_range : {r : Range} → r ≡ range_of SZ → Computable r
 of_range e = rw e (range-computable SZ)
 
 pub count-requires : goal.count-requires
-count-requires c = of_range c.range_of-range.ensures
+count-requires c = of_range c.range_of.ensures
 
 pub returns : goal.returns
-returns c = rw c.range_of-range.ensures at (held c.count.type_inv c.count.ensures)
+returns c = rw c.range_of.ensures at (held c.count.type_inv c.count.ensures)

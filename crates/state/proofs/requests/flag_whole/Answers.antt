@@ -30,10 +30,7 @@ word {r} {z} x e h = rw (h, e) (by (counted (range_of FLAG) x) (counted-up (rang
     by (negsuc m) g = absurd g.0.le
 
 pub count-requires : goal.count-requires
-count-requires c = of_range c.range_of-range.ensures
+count-requires c = of_range c.range_of.ensures
 
 pub overflow_cast-result : goal.overflow_cast-result
-overflow_cast-result c = word _ c.range_of-range.ensures (held c.count.type_inv c.count.ensures)
-
-pub returns : goal.returns
-returns c = rw (held c.count.type_inv c.count.ensures, c.range_of-range.ensures)
+overflow_cast-result c = word _ c.range_of.ensures (held c.count.type_inv c.count.ensures)
