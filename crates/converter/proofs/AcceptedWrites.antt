@@ -12,8 +12,7 @@ use Rattle.register.specs.declared.Access.{Access}
 use Rattle.register.specs.declared.Access.TheVariants.{Unlisted, ReadOnly, Takes, Action}
 use Rattle.modbus.specs.Frame.{word_at, function_of, value_of, judged}
 use Rattle.modbus.specs.Order.{Verdict, no_room, not_for_us, no_function, not_formed, no_address, only_read, unfit, reads, writes, acts}
-use Rattle.modbus.specs.declared.frame.Frame.{Frame}
-use Rattle.modbus.specs.declared.frame.Frame.TheVariants.{Refused, Read, Write, Act}
+use Rattle.modbus.specs.Judgement.{Frame, Refused, Read, Write, Act}
 use Rattle.modbus.proofs.Order.{order-holds}
 use Rattle.answers.specs.Register.{answer_of, number_of}
 use Rattle.converter.specs.declared.Device.{Device}

@@ -34,8 +34,7 @@ use Rattle.probe.specs.Probe.{is_beyond, temp_of}
 use Rattle.modbus.specs.Frame.{station_of, function_of, for_us, to_us, checked, judged}
 use Rattle.modbus.specs.Reply.{silent, unless_silent, write_reply, exception_code, exception_reply}
 use Rattle.modbus.proofs.Replies.{length-framed, value-fits, write-fits, exception-fits}
-use Rattle.modbus.specs.declared.frame.Frame.{Frame}
-use Rattle.modbus.specs.declared.frame.Frame.TheVariants.{Write, Act}
+use Rattle.modbus.specs.Judgement.{Frame, Write, Act}
 use Rattle.state.specs.Reading.{bad_reading}
 use Rattle.in_force.specs.InForce.{with_figures, with_copy, zero_steps, offered, copy_fits, applied, setup_written, setup_acted, setup_by}
 use Rattle.state.specs.Request.{flag_whole, acted, flagged, state_by, restarted, snapped, peaks_at, peaks_reset}
@@ -43,14 +42,13 @@ use Rattle.answers.specs.Register.{steps_at, reading_float, reading_at, register
 use Rattle.answers.specs.Parts.{obeys}
 use Rattle.state.specs.Report.{report_of}
 use Rattle.state.specs.declared.State.{State}
-use Rattle.answers.specs.declared.Answer.{Answer}
-use Rattle.answers.specs.declared.Answer.TheVariants.{Value, Done, Refused}
+use Rattle.answers.specs.Answer.{Answer}
+use Rattle.answers.specs.Answer.{Value, Done, Refused}
 use Rattle.converter.specs.Corner.{corner_refused}
 use Rattle.converter.specs.Call.{Call, reading, frame, report, corner, probe, obeyed, after_sample, after_call, answer_to_bytes, sample_number, number, reply_with, reply}
-use Rattle.converter.specs.Reached.{Reached, Serving}
+use Rattle.converter.specs.Reached.{Reached, Served, Serving}
 use Rattle.converter.specs.Wire.{Sends, Withholds}
 use Rattle.converter.specs.declared.Device.{Device}
-use Rattle.converter.specs.declared.Served.{Served}
 
 -- ---- "No refusal changes a device"
 

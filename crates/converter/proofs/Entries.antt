@@ -18,10 +18,8 @@ use Rattle.compensation.proofs.Magnitudes.{cell-input, values-input}
 use Rattle.register.specs.Number.{APPLY, RST, SNAP, PEAKRESET}
 use Rattle.compensation.proofs.Joined.{values-joined}
 use Rattle.probe.specs.Probe.{is_beyond, temp_of}
-use Rattle.modbus.specs.Frame.{judged}
-use Rattle.modbus.specs.declared.frame.Frame.{Frame}
-use Rattle.modbus.specs.declared.frame.Frame.TheVariants as asks
-use Rattle.modbus.specs.declared.frame.Frame.TheVariants.{Read, Write, Act}
+use Rattle.modbus.specs.Judgement as asks
+use Rattle.modbus.specs.Judgement.{Frame, Read, Write, Act}
 use Rattle.state.specs.Reading.{bad_reading, readings_after, state_after_reading, state_after_values}
 use Rattle.state.specs.ForCode.{held_after, remembering}
 use Rattle.state.proofs.Remembered.{remembered-first}
@@ -29,14 +27,14 @@ use borrow.Author.Tests.{ne_eqb, eqb-true}
 use native.Mathlib.Omega.{arith}
 use Rattle.in_force.specs.InForce.{copy_fits, applied, setup_acted, setup_by}
 use Rattle.state.specs.Request.{restarted, snapped, peaks_reset, acted, state_by}
-use Rattle.answers.specs.Register.{answer_of, number_of}
+use Rattle.answers.specs.Register.{number_of}
 use Rattle.answers.specs.Parts.{is_read, applies, is_obeyed, obeys}
 use Rattle.in_force.specs.declared.Setup.{Setup}
 use Rattle.state.specs.declared.State.{State}
 use Rattle.converter.specs.Call as call
 use Rattle.converter.specs.Call.{Call, obeyed, after_call, number, answer_to_bytes}
 use Rattle.converter.specs.Reached.{Reached, OutcomeOf, Delivers, Reading, Probing, Serving}
-use Rattle.answers.specs.declared.Answer.{Answer}
+use Rattle.answers.specs.Answer.{Answer}
 use Rattle.converter.specs.declared.bus.Answered.{Answered}
 use Rattle.converter.specs.declared.Device.{Device}
 use Rattle.converter.specs.declared.Outcome.{Outcome}
@@ -133,17 +131,13 @@ read-unobeyed d (Read n) e = refl
 read-unobeyed d (Write r x) e = absurd (false≢true e)
 read-unobeyed d (Act r) e = absurd (false≢true e)
 
--- what is replied and what is left of the device keep the contract, by the answer x that the frame is due
-pub serves : {d : Device} → Reached d → (bytes before after : List ℕ) {f : Frame} {r : Answered} {e : Device} {x : Answer}
-    → f ≡ judged bytes (length before) d.setup.station → answer_of d.state d.setup f ≡ x → Delivers x bytes before after r → e ≡ obeyed d f
+-- the answer x that a frame is due, once it is delivered, and the device that is left keep the contract
+pub serves : {d : Device} → Reached d → (bytes before after : List ℕ) {r : Answered} {e : Device} {x : Answer}
+    → x ≡ answer_to_bytes d bytes (length before) → e ≡ after_call d (call.frame bytes (length before)) → Delivers x bytes before after r
     → Serving d bytes before after (record { number = r.number; length = r.length; device = e })
-unfolding answer_to_bytes
-serves {d} h bytes before after {f} {r} {e} {x} what due answers is =
-    let to-it : x ≡ answer_to_bytes d bytes (length before) = sym due ∙ ap (answer_of d.state d.setup) what in
-    let after-it : e ≡ after_call d (call.frame bytes (length before)) = is ∙ ap (obeyed d) what in
-    record {
-      number_is = answers.number_is ∙ ap number_of to-it;
-      device_is = after-it;
-      replied = (rw to-it at answers).replied;
-      reached = subst Reached (sym after-it) (reached-step h (call.frame bytes (length before)));
-    }
+serves h bytes before after due left answers = record {
+  number_is = answers.number_is ∙ ap number_of due;
+  device_is = left;
+  replied = (rw due at answers).replied;
+  reached = subst Reached (sym left) (reached-step h (call.frame bytes (length before)));
+}

@@ -22,8 +22,7 @@ use native.Mathlib.Omega.{arith}
 use Rattle.register.specs.Number.{FLAG, RST, SNAP, PEAKRESET}
 use Rattle.probe.specs.Probe.{is_beyond, temp_of}
 use Rattle.modbus.specs.Frame.{judged}
-use Rattle.modbus.specs.declared.frame.Frame.{Frame}
-use Rattle.modbus.specs.declared.frame.Frame.TheVariants.{Refused, Read, Write, Act}
+use Rattle.modbus.specs.Judgement.{Frame, Refused, Read, Write, Act}
 use Rattle.state.specs.Reading.{bad_reading, peak_after, trof_after, readings_after, remembered_of, state_after_reading, state_after_values}
 use Rattle.state.specs.ForCode.{held_after}
 use Rattle.in_force.specs.InForce.{setup_by}

@@ -13,8 +13,7 @@ use Rattle.compensation.specs.Faithful.{Faithful}
 use Rattle.compensation.proofs.Faithful.{faithful}
 use Rattle.modbus.specs.Frame.{judged}
 use Rattle.register.specs.Number.{APPLY, RST}
-use Rattle.modbus.specs.declared.frame.Frame.{Frame}
-use Rattle.modbus.specs.declared.frame.Frame.TheVariants.{Read, Write, Act}
+use Rattle.modbus.specs.Judgement.{Frame, Read, Write, Act}
 use Rattle.panel.specs.Figure.{is_figure}
 use Rattle.state.specs.Reading.{bad_reading, readings_after, state_after_reading, state_after_values}
 use Rattle.state.specs.ForCode.{held_after}

@@ -25,7 +25,7 @@ use Rattle.figures.specs.declared.Filter.{Filter}
 use Rattle.figures.proofs.Mirror.{mirrors-acceptable, mirror_of, mirror-mirrors, mirror-representable, mirrors-unused}
 use Rattle.sheet.specs.Forms.{read_sheet}
 use Rattle.sheet.specs.Write.{sheet_bytes}
-use Rattle.sheet.specs.declared.Sheet.{Sheet}
+use Rattle.sheet.specs.Sheet.{Sheet}
 use Rattle.sheet.proofs.Theorems.{written_read, read-accepted}
 use Rattle.compensation.specs.ReadingLimits.{elec_most, temp_most}
 use Rattle.compensation.specs.Filter.{Remembered, held_by}

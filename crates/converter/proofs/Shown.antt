@@ -18,7 +18,7 @@ use Rattle.state.specs.Report.{no_report, report_of}
 use Rattle.in_force.specs.declared.Setup.{Setup}
 use Rattle.state.specs.declared.Readings.{Readings}
 use Rattle.state.specs.declared.reporting.Reported.{Reported}
-use Rattle.answers.specs.declared.Answer.TheVariants.{Value, Refused}
+use Rattle.answers.specs.Answer.{Value, Refused}
 use Rattle.converter.specs.Log.{Kept, valued, Entry, Log}
 use Rattle.converter.specs.Wire.{Sends}
 use Rattle.converter.specs.History.{Right, SysnShown, AlwaysShown, of_reading, NoneShown, Shown}

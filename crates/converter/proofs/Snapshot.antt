@@ -11,8 +11,7 @@ use Rattle.integers.proofs.Order.{pick}
 use Rattle.register.specs.Number.{FLAG, RST, SNAP, PEAKRESET}
 use Rattle.probe.specs.Probe.{is_beyond, temp_of}
 use Rattle.modbus.specs.Frame.{judged}
-use Rattle.modbus.specs.declared.frame.Frame.{Frame}
-use Rattle.modbus.specs.declared.frame.Frame.TheVariants.{Refused, Read, Write, Act}
+use Rattle.modbus.specs.Judgement.{Frame, Refused, Read, Write, Act}
 use Rattle.state.specs.Reading.{bad_reading, state_after_reading, state_after_values}
 use Rattle.state.specs.Request.{fresh, restarted, snapped, peaks_reset, acted, flagged, state_by}
 use Rattle.in_force.specs.declared.Setup.{Setup}

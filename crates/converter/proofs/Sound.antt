@@ -34,8 +34,7 @@ use Rattle.panel.proofs.Places.{written-in-range, written-representable}
 use Rattle.panel.proofs.Unused.{unused-in-range, unused-representable}
 use Rattle.sheet.specs.Judge.{figures_number}
 use Rattle.sheet.proofs.Theorems.{judged-acceptable}
-use Rattle.modbus.specs.declared.frame.Frame.{Frame}
-use Rattle.modbus.specs.declared.frame.Frame.TheVariants.{Refused, Read, Write, Act}
+use Rattle.modbus.specs.Judgement.{Frame, Refused, Read, Write, Act}
 use Rattle.probe.specs.Probe.{is_beyond, temp_of}
 use Rattle.modbus.specs.Frame.{judged}
 use Rattle.state.specs.Reading.{outside, beyond, bad_reading, larger, smaller, peak_after, trof_after, readings_after, state_after_reading, state_after_values}

@@ -9,8 +9,7 @@ use Rattle.integers.proofs.Order.{is_true, pick}
 use Rattle.register.specs.Number.{SZ, APPLY, RST}
 use Rattle.probe.specs.Probe.{is_beyond, temp_of}
 use Rattle.modbus.specs.Frame.{judged}
-use Rattle.modbus.specs.declared.frame.Frame.{Frame}
-use Rattle.modbus.specs.declared.frame.Frame.TheVariants.{Refused, Read, Write, Act}
+use Rattle.modbus.specs.Judgement.{Frame, Refused, Read, Write, Act}
 use Rattle.panel.specs.Figure.{is_figure}
 use Rattle.in_force.specs.InForce.{copy_fits, applied, setup_written, setup_acted, setup_by}
 use Rattle.state.specs.Reading.{bad_reading}

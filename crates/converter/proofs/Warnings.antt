@@ -23,8 +23,7 @@ use Rattle.register.specs.Number.{FLAG, RST, SNAP, PEAKRESET}
 use Rattle.register.specs.Register.{access_of, range_of}
 use Rattle.probe.specs.Probe.{is_beyond, temp_of}
 use Rattle.modbus.specs.Frame.{value_of}
-use Rattle.modbus.specs.declared.frame.Frame.{Frame}
-use Rattle.modbus.specs.declared.frame.Frame.TheVariants.{Refused, Read, Write, Act}
+use Rattle.modbus.specs.Judgement.{Frame, Refused, Read, Write, Act}
 use Rattle.state.specs.Reading.{bad_reading, peak_after, trof_after, readings_after, state_after_reading, state_after_values}
 use Rattle.state.specs.Request.{reboot, flag_whole, fresh, restarted, snapped, peaks_reset, acted, flagged, state_by}
 use Rattle.state.specs.declared.State.{State}

@@ -13,12 +13,12 @@ use Rattle.modbus.specs.Frame.{judged}
 use Rattle.modbus.specs.Master.{read_request}
 use Rattle.modbus.specs.Exception.{with_top_set, code_said, Heard}
 use Rattle.modbus.specs.Reply.{unless_silent}
-use Rattle.modbus.specs.declared.frame.Frame.{Frame}
+use Rattle.modbus.specs.Judgement.{Frame}
 use Rattle.modbus.proofs.Master.{understood}
 use Rattle.modbus.proofs.Exception.{heard, exceptions-hold}
 use Rattle.answers.specs.Register.{register_at, answer_of, number_of}
-use Rattle.answers.specs.declared.Answer.{Answer}
-use Rattle.answers.specs.declared.Answer.TheVariants.{Value, Refused}
+use Rattle.answers.specs.Answer.{Answer}
+use Rattle.answers.specs.Answer.{Value, Refused}
 use Rattle.converter.specs.Call.{frame, answer_to_bytes, number, reply_with, reply}
 use Rattle.converter.specs.Wire.{Sends, Withholds}
 use Rattle.converter.specs.declared.Device.{Device}

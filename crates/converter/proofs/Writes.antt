@@ -15,13 +15,12 @@ use Rattle.modbus.specs.Frame.{judged}
 use Rattle.modbus.specs.Master.{asking, write_request, Reaches, WritesAsked}
 use Rattle.modbus.specs.Exception.{code_said, Heard}
 use Rattle.modbus.specs.Reply.{unless_silent, write_reply}
-use Rattle.modbus.specs.declared.frame.Frame.{Frame}
-use Rattle.modbus.specs.declared.frame.Frame.TheVariants as asks
-use Rattle.modbus.specs.declared.frame.Frame.TheVariants.{Write, Act}
+use Rattle.modbus.specs.Judgement as asks
+use Rattle.modbus.specs.Judgement.{Frame, Write, Act}
 use Rattle.modbus.proofs.Master.{understood}
 use Rattle.modbus.proofs.Exception.{heard, exceptions-hold}
 use Rattle.answers.specs.Register.{on_reading, on_copy, answer_of}
-use Rattle.answers.specs.declared.Answer.TheVariants.{Done, Refused}
+use Rattle.answers.specs.Answer.{Done, Refused}
 use Rattle.converter.specs.Call.{frame, obeyed}
 use Rattle.converter.specs.Reached.{Reached}
 use Rattle.converter.specs.Wire.{Obeys, Rejects, WritesHeeded}

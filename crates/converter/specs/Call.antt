@@ -2,7 +2,7 @@
 use Rattle.std.specs.Prelude.{cond, List, [], ◌∷◌, ℕ, ℤ}
 use Rattle.probe.specs.Probe.{is_beyond, temp_of}
 use Rattle.modbus.specs.Frame.{judged}
-use Rattle.modbus.specs.declared.frame.Frame.{Frame}
+use Rattle.modbus.specs.Judgement.{Frame}
 use Rattle.modbus.specs.Reply.{value_reply, write_reply, exception_reply}
 use Rattle.state.specs.Reading.{bad_reading, state_after_reading}
 use Rattle.in_force.specs.InForce.{setup_by}
@@ -13,8 +13,8 @@ use Rattle.converter.specs.Corner.{Corner, at, corner_refused}
 use Rattle.converter.specs.declared.corner.Sample.{Sample}
 use Rattle.converter.specs.declared.corner.Samples.{Samples}
 use Rattle.converter.specs.declared.Device.{Device}
-use Rattle.answers.specs.declared.Answer.{Answer}
-use Rattle.answers.specs.declared.Answer.TheVariants.{Value, Done, Refused}
+use Rattle.answers.specs.Answer.{Answer}
+use Rattle.answers.specs.Answer.{Value, Done, Refused}
 
 -- a call: its arguments alone. `room` is the length of the reply buffer.
 pub data Call : Type 0 where

@@ -11,8 +11,7 @@ use Rattle.compensation.specs.declared.steps.Values.{Values}
 use Rattle.probe.specs.Probe.{is_beyond, temp_of}
 use Rattle.register.specs.Number.{FLAG, RST, PEAKRESET}
 use Rattle.modbus.specs.Frame.{judged}
-use Rattle.modbus.specs.declared.frame.Frame.{Frame}
-use Rattle.modbus.specs.declared.frame.Frame.TheVariants.{Refused, Read, Write, Act}
+use Rattle.modbus.specs.Judgement.{Frame, Refused, Read, Write, Act}
 use Rattle.state.specs.Reading.{bad_reading}
 use Rattle.in_force.specs.InForce.{setup_by}
 use Rattle.state.specs.Request.{reboot, flag_whole}

@@ -1,5 +1,7 @@
 -- Making a device (01, "Turned-down calls"): "Making a device checks the station first."
-use Rattle.std.specs.Prelude.{Bool, cond, ◌&&◌, List, ℕ, eqb, leb}
+use Rattle.std.specs.Prelude.{Bool, cond, ◌&&◌, List, ℕ, eqb, leb, Result, Ok, Err}
+use Rattle.refusal.specs.Refusal.{number}
+use Rattle.refusal.specs.declared.Refusal.{Refusal}
 use Rattle.figures.specs.Unused.{unused_zero}
 use Rattle.sheet.specs.Read.{no_figures}
 use Rattle.sheet.specs.Forms.{read_sheet}
@@ -32,3 +34,8 @@ made sheet station =
     cond (station_fits station)
     (cond (eqb (read_sheet sheet).number 0) (record { number = 0; device = started (setup_of sheet station) }) (refused (read_sheet sheet).number))
     (refused 8)
+
+-- the record that says what a making gave
+abbrev pub outcome_of : Result Device Refusal → Outcome
+outcome_of (Ok device) = record { number = 0; device = device }
+outcome_of (Err refusal) = refused (number refusal)

@@ -3,8 +3,7 @@
 use Rattle.std.specs.Prelude.{cond, List, [], ◌∷◌, ℕ, eqb, ℤ}
 use Rattle.std.proofs.Math.Option.{Option, none, some}
 use Rattle.modbus.specs.Frame.{judged}
-use Rattle.modbus.specs.declared.frame.Frame.{Frame}
-use Rattle.modbus.specs.declared.frame.Frame.TheVariants.{Refused, Read, Write, Act}
+use Rattle.modbus.specs.Judgement.{Frame, Refused, Read, Write, Act}
 use Rattle.converter.specs.Making.{setup_of}
 use Rattle.converter.specs.Call.{Call, reading, frame, report, corner, probe}
 use Rattle.converter.specs.Log.{Kept, valued, Log, latest, begun, note}

@@ -6,8 +6,7 @@ use Rattle.checksum.specs.Checksum.{framed}
 use Rattle.register.specs.Register.{range_of}
 use Rattle.register.specs.Listed.{kind_said, valued, only_read, not_listed}
 use Rattle.modbus.specs.Master.{asking, read_request, write_request, Reaches}
-use Rattle.modbus.specs.declared.frame.Frame.{Frame}
-use Rattle.modbus.specs.declared.frame.Frame.TheVariants.{Write, Act}
+use Rattle.modbus.specs.Judgement.{Frame, Write, Act}
 use Rattle.in_force.specs.InForce.{copy_fits}
 use Rattle.converter.specs.Call.{frame, obeyed, after_call, number, reply}
 use Rattle.converter.specs.declared.Device.{Device}
