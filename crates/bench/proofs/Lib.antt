@@ -1,5 +1,5 @@
 mod Digits
-mod Puts
+mod Numbers
 mod Lines
 mod Turns
 mod Chunks

@@ -1,25 +1,26 @@
 -- Where the steps of a cursor lead, past the end of its sheet too. Assumes nothing.
-use mathlib.Core.Path.{◌≡◌, sym, ap, ◌∙◌}
+use mathlib.Core.Path.{◌≡◌, refl, sym, ap, ◌∙◌}
 use mathlib.Core.List.{List}
 use Prim.Native.Nat.{ℕ, ◌+◌, ◌<◌, ◌≤◌}
 use native.Mathlib.Omega.{arith}
 use borrow.Author.Tests.{ltb-true, ltb-false, le-ltb, lt-ltb, lt-leb}
 use lib.Dec.{ltb}
-use lib.IntN.{pos}
+use lib.IntN.{ℤ, pos}
 use lib.ListN.{length, get_or-eq_default}
 use denote.Ref.{Bor}
 use Rattle.integers.proofs.Order.{pick}
 use Rattle.sheet.specs.Bytes.{count_at, figure_at}
 use Rattle.sheet.specs.Judge.{short_of}
 use Rattle.sheet.specs.Read.{cell_at}
-use Rattle.sheet.specs.Step.{count_found, figure_found, started, count_step, figure_step}
-use Rattle.sheet.specs.declared.CountFound.{CountFound}
-use Rattle.sheet.specs.declared.FigureFound.{FigureFound}
-use Rattle.sheet.specs.declared.CountStep.{CountStep}
+use Rattle.std.specs.Prelude.{Result, Ok, Err, IfOk}
+use Rattle.std.specs.Result.{result_and, result_unwrap_or}
+use Rattle.refusal.specs.Refusal.{number_of}
+use Rattle.refusal.specs.declared.Refusal.{Refusal}
+use Rattle.sheet.specs.Step.{CountFound, FigureFound, CountStep, FigureStep, count_found, figure_found, started, count_step, figure_step, Goes}
+use Rattle.refusal.proofs.Numbers.{number_above}
+use Rattle.sheet.proofs.Steps.{count-goes, figure-goes}
 use Rattle.sheet.specs.declared.Cursor.{Cursor}
-use Rattle.sheet.specs.declared.FigureStep.{FigureStep}
-use Rattle.tour.specs.Contents.{cell_section}
-use Rattle.tour.specs.declared.contents.CellSection.{CellSection}
+use Rattle.tour.specs.Contents.{CellSection, cell_section}
 
 -- It has got to e, if a figure stands there; and where none does, none stands where it has got.
 record Got (s : List ℕ) (e p : ℕ) : Type 0 where
@@ -122,8 +123,22 @@ module _ (s : Bor (List ℕ)) where
         };
       }
 
--- what five steps gave, each from the cursor that the one before left
-pub cell-read : (s : Bor (List ℕ)) {r0 : Cursor} {r1 : CountStep} {r2 r3 r4 r5 : FigureStep} → r0 ≡ started s → r1 ≡ count_step r0
-    → r2 ≡ figure_step r1.next → r3 ≡ figure_step r2.next → r4 ≡ figure_step r3.next → r5 ≡ figure_step r4.next
-    → record { number = r5.number; count = r1.value; cell = record { cofs = r2.value; cgai = r3.value; cmin = r4.value; cmax = r5.value } } ≡ cell_section s.now
-cell-read s e0 e1 e2 e3 e4 e5 = rw (e5, e4, e3, e2, e1, e0) (cell-found s)
+-- ---- what a step answers: its value, or 0 where it is refused
+
+module _ {A : Type 0} {width : ℕ} {read : List ℕ → A} {zero : A} {c : Cursor} {number : ℕ} {value : A} {next : Cursor} (g : Goes width read zero c number value next) where
+  none : 0 < number → value ≡ zero
+  none h = cases (length c.sheet.now) (c.at + width) (λ k. (g.short k).1.0) (λ k. absurd (omega (arith, (g.there k).0, h)))
+
+  or_zero : (r : Result A Refusal) → number_of r ≡ number → IfOk r (λ v. v ≡ value) → result_unwrap_or r zero ≡ value
+  or_zero (Ok v) n h = h
+  or_zero (Err e) n h = sym (none (omega (arith, number_above e, n)))
+
+pub count-read : (c : Cursor) (r : Result ℕ Refusal) → number_of r ≡ (count_step c).number → IfOk r (λ v. v ≡ (count_step c).value) → result_unwrap_or r 0 ≡ (count_step c).value
+count-read c r = or_zero (count-goes c) r
+
+pub figure-read : (c : Cursor) (r : Result ℤ Refusal) → number_of r ≡ (figure_step c).number → IfOk r (λ v. v ≡ (figure_step c).value) → result_unwrap_or r (pos 0) ≡ (figure_step c).value
+figure-read c r = or_zero (figure-goes c) r
+
+pub same_number : (r : Result ℤ Refusal) → number_of (result_and r (Ok (tt {0}))) ≡ number_of r
+same_number (Ok v) = refl
+same_number (Err e) = refl

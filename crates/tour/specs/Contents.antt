@@ -1,11 +1,17 @@
 -- What a sheet's cursor finds: the cell section, and where a section ends.
 use Rattle.std.specs.Prelude.{List, ℕ, zero, suc, length}
+use Rattle.figures.specs.declared.Cell.{Cell}
 use Rattle.sheet.specs.Bytes.{count_at}
 use Rattle.sheet.specs.Places.{cell_size}
 use Rattle.sheet.specs.Judge.{short_of}
 use Rattle.sheet.specs.Read.{cell_at}
 use Rattle.sheet.specs.Step.{count_found, figure_found}
-use Rattle.tour.specs.declared.contents.CellSection.{CellSection}
+
+-- the cell section, and 0; or 1, where the sheet ends before
+pub record CellSection : Type 0 where
+  pub number : ℕ
+  pub count : ℕ
+  pub cell : Cell
 
 -- "cell | 4 | COFS ..; CGAI ..; CMIN, CMAX": a count and four figures; 1, where the sheet "ends before a count or figure that
 -- is due", and 0 for what is missing

@@ -1,74 +1,74 @@
 // The sections of a sheet, read by its cursor: a line for each, with its number, its count and its figures.
 ghost use Rattle.std.specs.Prelude.{◌≡◌};
+ghost use Rattle.sheet.specs.Step.{moved};
 ghost use Rattle.tour.specs.Contents.{figures_end, points_end, section_end};
 
-use crate::{contents, lines};
-use sheet::{FigureFound, places};
+use crate::contents;
+use figures::Cell;
+use refusal::{Refusal, number_of};
+use sheet::{Cursor, places};
 
 // "Five sections in this order": behind the cell section each starts where the one before ends.
 pub(crate) fn print_sheet(rt: &impl Print, sheet: &[u8]) {
-    print_cell(rt, b"cell", sheet);
-    let linearity = print_section(rt, b"temperature", sheet, places::TEMPERATURE_START, 3);
-    let system = print_section(rt, b"linearity", sheet, linearity, 2);
-    let filter = print_section(rt, b"system", sheet, system, 1);
-    print_section(rt, b"filter", sheet, filter, 1);
+    print_cell(rt, "cell", sheet);
+    let mut cursor = Cursor {
+        sheet,
+        at: places::TEMPERATURE_START,
+    };
+    print_section(rt, "temperature", &mut cursor, 3);
+    print_section(rt, "linearity", &mut cursor, 2);
+    print_section(rt, "system", &mut cursor, 1);
+    print_section(rt, "filter", &mut cursor, 1);
 }
 
-// COFS, CGAI, CMIN, CMAX.
-pub(crate) fn print_cell(rt: &impl Print, what: &[u8], sheet: &[u8]) {
+pub(crate) fn print_cell(rt: &impl Print, what: &str, sheet: &[u8]) {
     let section = contents::cell_section(sheet);
-    let cell = section.cell;
-    lines::print_call(rt, b"cursor", what, section.number);
-    lines::print_count(rt, section.count);
-    lines::print_signed(rt, cell.cofs);
-    lines::print_signed(rt, cell.cgai);
-    lines::print_signed(rt, cell.cmin);
-    lines::print_signed(rt, cell.cmax);
-    lines::end_line(rt);
+    let number = number_of(&section.read);
+    let count = section.count;
+    let Cell {
+        cofs,
+        cgai,
+        cmin,
+        cmax,
+    } = section.cell;
+    let _ = println!(rt; "cursor {what}: {number}, {count}: {cofs} {cgai} {cmin} {cmax}");
 }
 
-// A section from a place on: its count, and so many figures to each that it counts. Gives the place after it.
-fn print_section(rt: &impl Print, what: &[u8], sheet: &[u8], at: usize, each: u8) -> usize
-    ensures { result ≡ section_end sheet.now at each }
+// A section from where the cursor is: its count, and so many figures to each that it counts.
+fn print_section(rt: &impl Print, what: &str, cursor: &mut Cursor, each: u8)
+    ensures { cursor.new ≡ moved cursor.old (section_end cursor.old.sheet.now cursor.old.at each) }
 {
-    let counted = contents::count_from(sheet, at);
-    lines::print_call(rt, b"cursor", what, counted.number);
-    lines::print_count(rt, counted.value);
-    let end = print_points(rt, sheet, counted.at, counted.value, each);
-    lines::end_line(rt);
-    end
+    let counted = cursor.count();
+    let number = number_of(&counted);
+    let count = counted.unwrap_or(0);
+    let _ = print!(rt; "cursor {what}: {number}, {count}:");
+    print_points(rt, cursor, count, each);
+    let _ = println!(rt);
 }
 
-fn print_points(rt: &impl Print, sheet: &[u8], at: usize, count: u8, each: u8) -> usize
-    ensures { result ≡ points_end sheet.now at each count }
+fn print_points(rt: &impl Print, cursor: &mut Cursor, count: u8, each: u8)
+    ensures { cursor.new ≡ moved cursor.old (points_end cursor.old.sheet.now cursor.old.at each count) }
 {
-    let mut place = at;
-    let mut i: u8 = 0;
-    while i < count {
-        place = print_figures(rt, sheet, place, each);
-        i += 1;
+    for _ in 0..count {
+        print_figures(rt, cursor, each);
     }
-    place
 }
 
-fn print_figures(rt: &impl Print, sheet: &[u8], at: usize, count: u8) -> usize
-    ensures { result ≡ figures_end sheet.now at count }
+fn print_figures(rt: &impl Print, cursor: &mut Cursor, count: u8)
+    ensures { cursor.new ≡ moved cursor.old (figures_end cursor.old.sheet.now cursor.old.at count) }
 {
-    let mut place = at;
-    let mut i: u8 = 0;
-    while i < count {
-        let found = contents::figure_from(sheet, place);
-        print_found(rt, found);
-        place = found.at;
-        i += 1;
+    for _ in 0..count {
+        print_figure(rt, cursor.figure());
     }
-    place
 }
 
-fn print_found(rt: &impl Print, found: FigureFound) {
-    if found.number != 0 {
-        lines::print_refused(rt, found.number);
-        return;
-    }
-    lines::print_signed(rt, found.value);
+// As it stands; or the number of the refusal in its place.
+fn print_figure(rt: &impl Print, figure: Result<i64, Refusal>) {
+    let _ = match figure {
+        Ok(value) => print!(rt; " {value}"),
+        Err(refusal) => {
+            let number = refusal.number();
+            print!(rt; " refused {number}")
+        }
+    };
 }

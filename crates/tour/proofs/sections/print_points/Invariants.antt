@@ -1,10 +1,8 @@
--- The place is the one after as many points. The measure is the points that are left.
-use Rattle.std.proofs.Common.{◌≡◌, ◌-◌, ◌≤◌}
+-- The cursor has got past as many.
+use Rattle.std.proofs.Common.{◌≡◌}
+use Rattle.sheet.specs.Step.{moved}
 use Rattle.tour.specs.Contents.{points_end}
 use Rattle.tour.proofs.sections.print_points.Given as goal
 
-abbrev pub invariant-loop-i : goal.invariant-loop-i
-invariant-loop-i g l = record { at : l.place ≡ points_end l.sheet l.fn.at l.each l.i; upto : l.i ≤ l.count }
-
-abbrev pub decreases-loop-i : goal.decreases-loop-i
-decreases-loop-i g l = l.count - l.i
+abbrev pub invariant-loop : goal.invariant-loop
+invariant-loop g l = l.cursor ≡ moved l.initial.cursor (points_end l.initial.cursor.sheet.now l.initial.cursor.at l.each l.counter)
