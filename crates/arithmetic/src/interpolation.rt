@@ -1,7 +1,8 @@
 ghost use Rattle.std.specs.Prelude.{◌≡◌, ℕ, ◌≤◌, length, map, take};
-ghost use Rattle.arithmetic.specs.Table.{Point, place, line, interpolated};
+ghost use Rattle.arithmetic.specs.Table.{Point, column, place, line, interpolated};
+ghost use Rattle.arithmetic.specs.Two.{interpolated_two};
 ghost use Rattle.arithmetic.specs.Around.{value_at, Lies};
-ghost use Rattle.arithmetic.specs.ForCode.{Segment};
+ghost use Rattle.arithmetic.specs.ForCode.{Computable, Segment};
 
 use crate::rounding::round_div;
 
@@ -11,6 +12,10 @@ pub trait Placed: Copy {
 
     fn place(self) -> i64
         ensures { result ≡ place (point self) };
+
+    // The figure of a column; 0 of one that the row has not.
+    fn value(self, j: usize) -> i64
+        ensures { result ≡ column j (point self) };
 }
 
 // What of a table's points tells its values at a place.
@@ -46,6 +51,46 @@ pub fn locate<P: Placed>(points: &[P], count: usize, t: i64) -> Around<P>
         }
     }
     Around::At(before)
+}
+
+// The two values of a table's points, interpolated.
+#[derive(Clone, Copy)]
+pub struct Two {
+    pub first: i64,
+    pub second: i64,
+}
+
+// Both values of a table of two points at least, the first `count`: CTO and CTG over CT. Kept a pair: both come from one search.
+pub fn interpolate_two<P: Placed>(points: &[P], count: usize, t: i64) -> Two
+    requires some { 1 ≤ length points.now }
+    requires le_count { 2 ≤ count }
+    requires computable { Computable 1 (map P.point (take count points.now)) }
+    requires computable_2 { Computable 2 (map P.point (take count points.now)) }
+    ensures { result ≡ interpolated_two (map P.point (take count points.now)) t }
+{
+    match locate(points, count, t) {
+        Around::At(p) => Two {
+            first: p.value(1),
+            second: p.value(2),
+        },
+        Around::Between(p, q) => Two {
+            first: line_at(p.place(), p.value(1), q.place(), q.value(1), t),
+            second: line_at(p.place(), p.value(2), q.place(), q.value(2), t),
+        },
+    }
+}
+
+// The value of a table of two points at least, the first `count`: CLK over CLX.
+pub fn interpolate_one<P: Placed>(points: &[P], count: usize, t: i64) -> i64
+    requires some { 1 ≤ length points.now }
+    requires le_count { 2 ≤ count }
+    requires computable { Computable 1 (map P.point (take count points.now)) }
+    ensures { result ≡ interpolated 1 (map P.point (take count points.now)) t }
+{
+    match locate(points, count, t) {
+        Around::At(p) => p.value(1),
+        Around::Between(p, q) => line_at(p.place(), p.value(1), q.place(), q.value(1), t),
+    }
 }
 
 // The line from (t1, v1) to (t2, v2), at t.

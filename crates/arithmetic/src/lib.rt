@@ -4,5 +4,5 @@
 mod interpolation;
 mod rounding;
 
-pub use interpolation::{Around, Placed, line_at, locate};
+pub use interpolation::{Around, Placed, Two, interpolate_one, interpolate_two, line_at, locate};
 pub use rounding::round_div;

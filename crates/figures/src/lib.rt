@@ -52,6 +52,15 @@ impl Placed for TemperaturePoint {
     fn place(self) -> i64 {
         self.ct
     }
+
+    fn value(self, j: usize) -> i64 {
+        match j {
+            0 => self.ct,
+            1 => self.cto,
+            2 => self.ctg,
+            _ => 0,
+        }
+    }
 }
 
 // The first ctn points are figures; what stands in the others is not looked at.
@@ -82,6 +91,14 @@ impl Placed for LinearityPoint {
 
     fn place(self) -> i64 {
         self.clx
+    }
+
+    fn value(self, j: usize) -> i64 {
+        match j {
+            0 => self.clx,
+            1 => self.clk,
+            _ => 0,
+        }
     }
 }
 
