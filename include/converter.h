@@ -23,10 +23,10 @@
  * Who finds the frames: the caller. On the line a frame ends with a silence of 3.5 characters (t3.5); hand over what
  * stood between two silences, whole, and send the reply, if there is one, after the next.
  *
- * Symbols that libboard.a needs: memset. Symbols that liblaboratory.a needs: memcpy, memset. (The caller's compiler may
+ * Symbols that libboard.a needs: none. Symbols that liblaboratory.a needs: memcpy, memset. (The caller's compiler may
  * ask for memcpy, to assign a record.)
  * Bytes of stack of libboard.a, at most, return address and red zone included: converter_make 2048; converter_reading
- * 128; converter_probe 1024; converter_report 64; converter_frame 1536, and what memset takes; converter_weigh 256.
+ * 128; converter_probe 1024; converter_report 64; converter_frame 1536; converter_weigh 256.
  * Bytes of stack of liblaboratory.a, likewise, and what memcpy and memset take: converter_judge_sheet 2048;
  * converter_read_sheet 3072; converter_write_sheet 1024; converter_move_to_new 2304; converter_move_to_old 2304. */
 #ifndef CONVERTER_H

@@ -25,7 +25,7 @@ fn zero_steps(x: f32) -> i64
     binary32::received::count(register::range_of(register::SZ), x)
 }
 
-// Part by part, since the compiler asks a board for memcpy to assign them as one (include/converter.h names memset alone).
+// Part by part, since the compiler asks a board for memcpy to assign them as one (include/converter.h names no symbol).
 fn put(to: &mut Calibration, figures: &Calibration)
     ensures { to.new ≡ figures.now }
 {

@@ -3,7 +3,7 @@
 
 ghost use Rattle.std.specs.Prelude.{◌≡◌, nat_abs};
 ghost use Rattle.integers.specs.Within.{◌within◌};
-ghost use Rattle.figures.specs.Unused.{unused_zero};
+ghost use Rattle.figures.specs.Unused.{used, unused_zero};
 ghost use Rattle.register.specs.Register.{range_of};
 ghost use Rattle.panel.specs.Figure.{figure_at, is_figure, figure_float, written};
 
@@ -101,13 +101,29 @@ pub fn write(c: &mut Calibration, register: u32, x: f32)
     }
 }
 
+// The points of a table past its count.
+trait Cleared: Point {
+    // Kept: no `fill`, of which a compiler makes a call of memset, whose stack the board would have to add to its own.
+    fn clear(points: &mut [Self], count: usize)
+        ensures { points.new ≡ used Self.unused count points.old }
+    {
+        for i in 0..points.len() {
+            if count <= i {
+                points[i] = Self::unused();
+            }
+        }
+    }
+}
+
+impl Cleared for TemperaturePoint {}
+
+impl Cleared for LinearityPoint {}
+
 // "0 in unused points": past the count.
 #[tactic(auto, unfolding(figures::specs::Unused::unused_zero))]
 pub fn unused_zero(c: &mut Calibration)
     ensures { c.new ≡ unused_zero c.old }
 {
-    let used = c.temperature.points.len().min(c.temperature.ctn as usize);
-    c.temperature.points[used..].fill(TemperaturePoint::unused());
-    let used = c.linearity.points.len().min(c.linearity.cln as usize);
-    c.linearity.points[used..].fill(LinearityPoint::unused());
+    TemperaturePoint::clear(&mut c.temperature.points, c.temperature.ctn as usize);
+    LinearityPoint::clear(&mut c.linearity.points, c.linearity.cln as usize);
 }
