@@ -14,7 +14,9 @@ use Rattle.in_force.specs.declared.Setup.{Setup}
 use Rattle.state.specs.declared.State.{State}
 use Rattle.in_force.specs.InForce.{with_zero, with_figures, with_copy, applied, setup_written, setup_acted, setup_by}
 use Rattle.state.specs.Request.{restarted, acted, flagged, state_by}
-use Rattle.answers.specs.Parts.{applies, changes_zero, restarts, changes_state, zero_by, copy_by}
+use Rattle.answers.specs.Register.{answer_of}
+use Rattle.answers.specs.Parts.{applies, changes_zero, restarts, changes_state, zero_by, copy_by, Parted}
+use Rattle.answers.proofs.Answers.{answer-obeyed, answer-refused}
 
 not-true : (b : Bool) → not b ≡ true → b ≡ false
 not-true true e = sym e
@@ -93,3 +95,15 @@ state-kept s (Refused n) a e = refl
 state-kept s (Read r) a e = refl
 state-kept s (Write r x) a e = rw e
 state-kept s (Act r) a e = absurd (true≢false (rw a at e))
+
+-- all of it
+pub parted : (s : State) (t : Setup) (f : Frame) → Parted s t f (answer_of s t f) (state_by s f) (setup_by t f)
+parted s t f = record {
+  obeyed = answer-obeyed s t f;
+  refused = answer-refused s t f;
+  on_apply = λ e. (state-applied s f e, setup-applied t f e);
+  on_zero = λ e. (state-zeroed s f e, setup-zeroed t f e);
+  on_restart = λ e. (state-restarted s f e, setup-restarted t f e);
+  on_state = setup-kept t f;
+  on_copy = λ a z e. (state-kept s f a e, setup-copied t f a z e);
+}

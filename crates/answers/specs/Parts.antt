@@ -1,6 +1,7 @@
--- A frame by tests: a read, one that is obeyed, or any other; and which part of a device it can change. No contract rests on these:
+-- A frame by tests: a read, one that is obeyed, or any other; and which part of a device it can change. Only code needs these:
 -- `proofs/Answers.antt` and `proofs/Stored.antt` tell what they say of `answer_of`, `setup_by` and `state_by`.
-use Rattle.std.specs.Prelude.{Bool, true, false, cond, not, ◌||◌, ℕ, eqb, ℤ}
+use Rattle.std.specs.Prelude.{◌≡◌, Bool, true, false, cond, not, ◌||◌, ℕ, eqb, ℤ}
+use Rattle.figures.specs.Unused.{unused_zero}
 use Rattle.figures.specs.declared.Calibration.{Calibration}
 use Rattle.register.specs.Number.{FLAG, SZ, APPLY, RST}
 use Rattle.modbus.specs.Judgement.{Frame, Refused, Read, Write, Act}
@@ -8,7 +9,9 @@ use Rattle.panel.specs.Figure.{is_figure, written}
 use Rattle.state.specs.declared.Readings.{Readings}
 use Rattle.in_force.specs.declared.Setup.{Setup}
 use Rattle.state.specs.declared.State.{State}
-use Rattle.in_force.specs.InForce.{zero_steps, copy_fits}
+use Rattle.state.specs.Request.{restarted}
+use Rattle.in_force.specs.InForce.{zero_steps, copy_fits, applied, with_zero, with_figures, with_copy}
+use Rattle.answers.specs.Answer.{Answer, Done, Refused as Turned}
 
 unfoldable pub is_read : Frame → Bool
 is_read (Refused n) = false
@@ -72,3 +75,13 @@ copy_by copy (Refused n) = copy
 copy_by copy (Read r) = copy
 copy_by copy (Write r x) = cond (is_figure r) (written copy r x) copy
 copy_by copy (Act r) = copy
+
+-- What a frame is answered with, and what it leaves of the state s and the setup t, by these tests.
+pub record Parted (s : State) (t : Setup) (f : Frame) (answer : Answer) (s' : State) (t' : Setup) : Type 0 where
+  pub obeyed : obeys s t f ≡ true → answer ≡ Done
+  pub refused : is_read f ≡ false → obeys s t f ≡ false → answer ≡ Turned (refusal_of f)
+  pub on_apply : applies f ≡ true → (s' ≡ s) × (t' ≡ applied t)
+  pub on_zero : changes_zero f ≡ true → (s' ≡ s) × (t' ≡ with_figures t (with_zero t.figures (zero_by t.figures.system.sz f)))
+  pub on_restart : restarts f ≡ true → (s' ≡ restarted s) × (t' ≡ with_copy t (unused_zero t.figures))
+  pub on_state : restarts f ≡ false → changes_state f ≡ true → t' ≡ t
+  pub on_copy : applies f ≡ false → changes_zero f ≡ false → changes_state f ≡ false → (s' ≡ s) × (t' ≡ with_copy t (copy_by t.copy f))

@@ -5,7 +5,7 @@ ghost use Rattle.std.specs.Prelude.{◌≡◌, true, Ok};
 ghost use Rattle.modbus.specs.Judgement.{frame_of};
 ghost use Rattle.panel.specs.ForCode.{InRange};
 ghost use Rattle.answers.specs.Answer.{register_as, answer_as};
-ghost use Rattle.answers.specs.Parts.{is_read};
+ghost use Rattle.answers.specs.Parts.{is_read, Parted};
 ghost use Rattle.answers.specs.Register.{steps_at, reading_float, reading_at, panel_at, register_at, answer_of};
 ghost use Rattle.answers.specs.Within.{StateWithin};
 ghost use Rattle.in_force.specs.InForce.{setup_by};
@@ -86,9 +86,19 @@ fn register_at(state: &State, setup: &Setup, register: u32) -> Result<f32, Refus
     }
 }
 
-// A judged frame is answered, and what it changes is stored, and nothing else.
-#[tactic(auto, unfolding(crate::specs::Parts::is_read, crate::specs::Register::answer_of, crate::specs::Register::on_copy, crate::specs::Register::on_reading, in_force::specs::InForce::setup_acted, in_force::specs::InForce::setup_by, in_force::specs::InForce::setup_written, panel::specs::Figure::is_figure, state::specs::Request::acted, state::specs::Request::flagged, state::specs::Request::state_by))]
+// A judged frame is answered, and what it changes is stored, and nothing else; by the tests of a frame, too.
 pub fn obey(state: &mut State, setup: &mut Setup, request: Request) -> Result<Option<f32>, Refusal>
+    requires { is_read (frame_of (Ok request)) ≡ true → StateWithin state.old setup.old.figures.system.sz setup.old.copy }
+    ensures answer { answer_as result ≡ answer_of state.old setup.old (frame_of (Ok request)) }
+    ensures state { state.new ≡ state_by state.old (frame_of (Ok request)) }
+    ensures setup { setup.new ≡ setup_by setup.old (frame_of (Ok request)) }
+    ensures parts { Parted state.old setup.old (frame_of (Ok request)) (answer_as result) state.new setup.new }
+{
+    answer(state, setup, request)
+}
+
+#[tactic(auto, unfolding(crate::specs::Parts::is_read, crate::specs::Register::answer_of, crate::specs::Register::on_copy, crate::specs::Register::on_reading, in_force::specs::InForce::setup_acted, in_force::specs::InForce::setup_by, in_force::specs::InForce::setup_written, panel::specs::Figure::is_figure, state::specs::Request::acted, state::specs::Request::flagged, state::specs::Request::state_by))]
+fn answer(state: &mut State, setup: &mut Setup, request: Request) -> Result<Option<f32>, Refusal>
     requires { is_read (frame_of (Ok request)) ≡ true → StateWithin state.old setup.old.figures.system.sz setup.old.copy }
     ensures answer { answer_as result ≡ answer_of state.old setup.old (frame_of (Ok request)) }
     ensures state { state.new ≡ state_by state.old (frame_of (Ok request)) }
